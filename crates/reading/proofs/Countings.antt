@@ -1,0 +1,115 @@
+-- One record more: what it changes in the counts and the names of the records, and in the tables.
+use mathlib.Core.Path.{_≡_, refl, ap, _∙_}
+use mathlib.Core.Bool.{Bool, true, false, cond, _||_}
+use mathlib.Core.List.{List, [], _∷_, _++_}
+use Prim.Native.Nat.{suc}
+use lib.ListN.{length}
+use lib.Dec.{ltb, leb·zero, leb·suc-suc}
+use Rattle.reading.specs.Texts.{Text, same, member, known, run, distinct, onLast}
+use Rattle.reading.specs.Records.{Record, placeOf, placeAfter, isKind, fieldsWhere, namesRole, namesMethod, declaredIn, rolesIn, methodsIn}
+use Rattle.reading.specs.Limits.{count}
+use Rattle.reading.specs.Tables.{startTables, indexOf, indexed, tablesWith, tablesOf}
+use Rattle.reading.specs.declared.records.Kind.{Kind}
+use Rattle.reading.specs.declared.records.Kind.the-variants.{Role}
+
+-- ---- lists
+-- a run over one element more
+pub run-snoc {ℓ κ} : {S : Type ℓ} {A : Type κ} (f : S → A → S) (z : S) (xs : List A) (x : A) → run f z (xs ++ x ∷ []) ≡ f (run f z xs) x
+unfolding run
+run-snoc f z [] x = refl
+run-snoc f z (y ∷ ys) x = run-snoc f (f z y) ys x
+
+-- a change of the last element keeps the number
+pub length-on-last {ℓ} : {A : Type ℓ} (f : A → A) (xs : List A) → length (onLast f xs) ≡ length xs
+unfolding onLast
+length-on-last f [] = refl
+length-on-last f (x ∷ []) = refl
+length-on-last f (x ∷ y ∷ ys) = ap suc (length-on-last f (y ∷ ys))
+
+-- one element more is one more
+pub length-snoc {ℓ} : {A : Type ℓ} (xs : List A) (x : A) → length (xs ++ x ∷ []) ≡ suc (length xs)
+length-snoc [] x = refl
+length-snoc (y ∷ ys) x = ap suc (length-snoc ys x)
+
+-- a text more is put behind the distinct ones, unless it is one of them
+pub distinct-snoc : (ts : List Text) (t : Text) → distinct (ts ++ t ∷ []) ≡ known (distinct ts) t
+unfolding distinct
+distinct-snoc ts t = run-snoc known [] ts t
+
+-- ---- places among texts
+-- a text is one of them where its place is below their number
+pub index-member : (t : Text) (us : List Text) → ltb (indexOf t us) (length us) ≡ member t us
+unfolding indexOf member
+index-member t [] = refl
+index-member t (u ∷ us) = go (same u t) (index-member t us)
+  where
+    go : (b : Bool) → ltb (indexOf t us) (length us) ≡ member t us → ltb (cond b 0 (suc (indexOf t us))) (suc (length us)) ≡ (b || member t us)
+    go true e = leb·suc-suc 0 (length us) ∙ leb·zero (length us)
+    go false e = leb·suc-suc (suc (indexOf t us)) (length us) ∙ e
+
+-- so the two ways to put a text behind the others are one
+pub indexed-known : (t : Text) (us : List Text) → indexed t us ≡ known us t
+unfolding indexed known
+indexed-known t us = ap (λ (b : Bool). cond b us (us ++ t ∷ [])) (index-member t us)
+
+-- ---- one record more
+-- the place after it is its own
+pub place-snoc : (rs : List Record) (r : Record) → placeAfter (rs ++ r ∷ []) ≡ placeOf r
+unfolding placeAfter
+place-snoc [] r = refl
+place-snoc (q ∷ []) r = refl
+place-snoc (q ∷ p ∷ rs) r = place-snoc (p ∷ rs) r
+
+-- its field comes last, if it passes
+pub fields-snoc : (test : Record → Bool) (rs : List Record) (r : Record) →
+    fieldsWhere test (rs ++ r ∷ []) ≡ cond (test r) (fieldsWhere test rs ++ r .field ∷ []) (fieldsWhere test rs)
+unfolding fieldsWhere
+fields-snoc test [] r = refl
+fields-snoc test (q ∷ rs) r = rw (fields-snoc test rs r) (go (test q) (test r))
+  where
+    go : (a b : Bool) →
+        cond a (q .field ∷ cond b (fieldsWhere test rs ++ r .field ∷ []) (fieldsWhere test rs)) (cond b (fieldsWhere test rs ++ r .field ∷ []) (fieldsWhere test rs))
+        ≡ cond b (cond a (q .field ∷ fieldsWhere test rs) (fieldsWhere test rs) ++ r .field ∷ []) (cond a (q .field ∷ fieldsWhere test rs) (fieldsWhere test rs))
+    go true true = refl
+    go true false = refl
+    go false true = refl
+    go false false = refl
+
+module _ (rs : List Record) (r : Record) where
+  -- the count of its kind is one more
+  pub count-snoc : (k : Kind) → count k (rs ++ r ∷ []) ≡ cond (isKind k r) (suc (count k rs)) (count k rs)
+  unfolding count
+  count-snoc k = ap length (fields-snoc (isKind k) rs r) ∙ go (isKind k r)
+    where
+      go : (b : Bool) → length (cond b (fieldsWhere (isKind k) rs ++ r .field ∷ []) (fieldsWhere (isKind k) rs))
+          ≡ cond b (suc (length (fieldsWhere (isKind k) rs))) (length (fieldsWhere (isKind k) rs))
+      go true = length-snoc (fieldsWhere (isKind k) rs) (r .field)
+      go false = refl
+
+  -- `role` declares one role more
+  pub declared-snoc : declaredIn (rs ++ r ∷ []) ≡ cond (isKind Role r) (declaredIn rs ++ r .field ∷ []) (declaredIn rs)
+  unfolding declaredIn
+  declared-snoc = fields-snoc (isKind Role) rs r
+
+  -- the distinct fields of those that pass
+  distinct-fields : (test : Record → Bool) → distinct (fieldsWhere test (rs ++ r ∷ []))
+      ≡ cond (test r) (known (distinct (fieldsWhere test rs)) (r .field)) (distinct (fieldsWhere test rs))
+  distinct-fields test = ap distinct (fields-snoc test rs r) ∙ go (test r)
+    where
+      go : (b : Bool) → distinct (cond b (fieldsWhere test rs ++ r .field ∷ []) (fieldsWhere test rs))
+          ≡ cond b (known (distinct (fieldsWhere test rs)) (r .field)) (distinct (fieldsWhere test rs))
+      go true = distinct-snoc (fieldsWhere test rs) (r .field)
+      go false = refl
+
+  pub roles-snoc : rolesIn (rs ++ r ∷ []) ≡ cond (namesRole r) (known (rolesIn rs) (r .field)) (rolesIn rs)
+  unfolding rolesIn
+  roles-snoc = distinct-fields namesRole
+
+  pub methods-snoc : methodsIn (rs ++ r ∷ []) ≡ cond (namesMethod r) (known (methodsIn rs) (r .field)) (methodsIn rs)
+  unfolding methodsIn
+  methods-snoc = distinct-fields namesMethod
+
+  -- the tables are those before, with what it adds
+  pub tables-snoc : tablesOf (rs ++ r ∷ []) ≡ tablesWith (tablesOf rs) r
+  unfolding tablesOf
+  tables-snoc = run-snoc tablesWith startTables rs r

@@ -1,0 +1,91 @@
+-- The whole of reading: from the lines behind the first to the answer for the text.
+-- Assumes nothing.
+use mathlib.Core.Path.{_≡_, refl, sym, ap, _∙_}
+use mathlib.Core.Bool.{Bool, true, false, not, cond, _&&_}
+use mathlib.Core.List.{List, [], _∷_, _++_}
+use Prim.Native.Nat.{ℕ, _≤_, _<_}
+use native.Mathlib.Omega.{arith}
+use lib.ListN.{length, drop}
+use lib.Dec.{ltb}
+use borrow.Author.Tests.{lt-ltb, le-ltb, not-true, not-false}
+use Rattle.reading.specs.Texts.{Text, bytes, same, startsWith}
+use Rattle.reading.specs.Lines.{Line, linesOf}
+use Rattle.reading.specs.Refusals.{Reading, accepted, refusal, readFrom, readLines, readingOf}
+use Rattle.reading.specs.Listings.{recordsIn, recordsOf}
+use Rattle.reading.specs.Tables.{Filling, filled, unfilled, Tables, Fits, fillFrom, startTables, answerOf, tablesAt, tablesOf, fillShown, FillFits, FillOutcome, Holds, readingShown, LoadHolds, LoadOutcome}
+use Rattle.reading.specs.declared.answers.Fault.{Fault}
+use Rattle.reading.specs.declared.answers.Fault.the-variants.{LongListing, BadFirstLine}
+use Rattle.reading.specs.declared.tables.Tally.{Tally}
+use Rattle.reading.specs.declared.reader.Loaded.{Loaded}
+use Rattle.reading.specs.declared.reader.Loaded.the-variants.{Whole, Not}
+use Rattle.reading.specs.Refusals.{numberOf}
+use Rattle.reading.specs.Outcomes.{reportOf, zeroed, workAfter, readReport, ReadOutcome}
+use Rattle.reading.specs.declared.answers.Report.{Report}
+use Rattle.reading.proofs.Headers.{header, header-missing, header-there, header-length}
+use Rattle.reading.proofs.Filling.{fill-reads, fill-tables, fill-sound}
+use Rattle.reading.proofs.Sound.{Sound}
+
+-- ---- a text that is short enough is read by its lines
+short : (s : Text) → length s ≤ 24576 → readingOf s ≡ readLines (linesOf s)
+unfolding readingOf
+short s h = rw (le-ltb _ _ h)
+
+-- and one with the first line by those behind it
+behind : (s : Text) → length s ≤ 24576 → startsWith header s ≡ true → readingOf s ≡ readFrom [] 2 (linesOf (drop 14 s))
+unfolding readLines same
+behind s h e = short s h ∙ ap readLines (header-there s e)
+
+records-behind : (s : Text) → startsWith header s ≡ true → recordsOf s ≡ recordsIn (linesOf (drop 14 s))
+unfolding recordsOf
+records-behind s e = ap (λ (ls : List Line). recordsIn (drop 1 ls)) (header-there s e)
+
+-- ---- the ways out of `load`
+pub load-long : (s : Text) (w : List ℕ) → 24576 < length s → LoadOutcome s (Not LongListing 0) w
+unfolding readingOf
+load-long s w h = record { answer = sym (rw (lt-ltb _ _ h)); holds = tt }
+
+pub load-headless : (s : Text) (w : List ℕ) (r : Bool) → length s ≤ 24576 → r ≡ startsWith header s → not r ≡ true → LoadOutcome s (Not BadFirstLine 1) w
+load-headless s w r h e n =
+    let f : startsWith header s ≡ false = sym e ∙ not-true r n in
+    record { answer = sym (short s h ∙ header-missing s f); holds = tt }
+
+pub load-length : (s : Text) (r : Bool) → r ≡ startsWith header s → not r ≡ false → 14 ≤ length s
+load-length s r e n = header-length s (sym e ∙ not-false r n)
+
+pub load-filled : (s : Text) (w : List ℕ) (r : Bool) (out : Loaded) → length s ≤ 24576 → r ≡ startsWith header s → not r ≡ false
+    → FillOutcome s (fillFrom startTables 2 (linesOf (drop 14 s))) out w → LoadOutcome s out w
+load-filled s w r out h e n o = go out (o .answer) (o .fits)
+  where
+    begins : startsWith header s ≡ true
+    begins = sym e ∙ not-false r n
+
+    read : (f : Filling) → f ≡ fillFrom startTables 2 (linesOf (drop 14 s)) → answerOf f ≡ readingOf s
+    read f q = ap answerOf q ∙ fill-reads (linesOf (drop 14 s)) ∙ sym (behind s h begins)
+
+    go : (x : Loaded) → fillShown s x w ≡ fillFrom startTables 2 (linesOf (drop 14 s)) → FillFits s x w → LoadOutcome s x w
+    go (Not f k) q t = record { answer = read (unfilled f k) q; holds = tt }
+    go (Whole u) q t =
+        record {
+          answer = read (filled (tablesAt s u w)) q;
+          holds = record {
+            accepts = sym (read (filled (tablesAt s u w)) q);
+            tables = fill-tables (linesOf (drop 14 s)) (tablesAt s u w) (sym q) ∙ ap tablesOf (sym (records-behind s begins));
+            fits = t;
+          };
+        }
+
+-- ---- what is handed back
+pub report-whole : (side : ℕ) (l : Loaded) (t : Tally) → l ≡ Whole t → record { number = 0; side = 0; line = 0 } ≡ reportOf side (readingShown l)
+report-whole side l t e = rw e
+
+pub report-not : (side : ℕ) (l : Loaded) (f : Fault) (n m : ℕ) → l ≡ Not f n → m ≡ numberOf f → record { number = m; side = side; line = n } ≡ reportOf side (readingShown l)
+report-not side l f n m e q = rw (e, q)
+
+-- ---- the whole call
+pub read-short : (s w : List ℕ) → length w < 4096 → ReadOutcome s w (record { number = 1; side = 0; line = 0 }) w
+unfolding readReport workAfter
+read-short s w h = record { handed = rw (lt-ltb _ _ h); work = rw (lt-ltb _ _ h) }
+
+pub read-long : (s w w′ : List ℕ) (r : Report) → 4096 ≤ length w → (r ≡ reportOf 1 (readingOf s)) × (w′ ≡ zeroed 4096 w) → ReadOutcome s w r w′
+unfolding readReport workAfter
+read-long s w w′ r h e = record { handed = rw (le-ltb _ _ h) (e .0); work = rw (le-ltb _ _ h) (e .1) }

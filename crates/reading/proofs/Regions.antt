@@ -1,0 +1,155 @@
+-- Parts of the work table, the texts that its numbers name, and the search among them.
+use mathlib.Core.Path.{_≡_, refl, sym, ap, _∙_}
+use mathlib.Core.Bool.{Bool, true, false, cond}
+use mathlib.Core.List.{List, [], _∷_, _++_, map-append}
+use Prim.Native.Nat.{ℕ, zero, suc, _+_, _-_, _*_, _/_, _%_, _≤_, _<_}
+use native.Mathlib.Nat.{add-sub-cancel-left, add-zero}
+use native.Mathlib.Numerals.{add-one}
+use native.Mathlib.Omega.{arith}
+use native.Mathlib.Decide.{decLt}
+use lib.ListN.{length, take, drop, getD, set, length-take, length-drop, length-map, drop-of-length-le, List·getD-map}
+use lib.Seq.{take-set-le, drop-set-lt, drop-set-add, take-suc, take-suc-set, getD-take, getD-drop, drop-cons}
+use lib.Arith.{digits-div, digits-mod}
+use borrow.Author.Tests.{lt-ltb, le-ltb, le-leb, lt-leb}
+use Rattle.reading.specs.Texts.{Text, same, onLast, part}
+use Rattle.reading.specs.Tables.{region, textAt, textsAt, indexOf, indexed}
+
+-- ---- a number's text, as the code takes it out
+pub text-in : (s : Text) (x f n : ℕ) → f ≡ x / 256 → n ≡ x % 256 → f + n ≤ length s → take (f + n - f) (drop f s) ≡ textAt s x
+unfolding textAt
+text-in s x f n p q h =
+    let k : x / 256 + x % 256 ≤ length s = omega arith in
+    rw (le-leb _ _ k, p, q, add-sub-cancel-left)
+
+pub text-out : (s : Text) (x f n : ℕ) → f ≡ x / 256 → n ≡ x % 256 → length s < f + n → [] ≡ textAt s x
+unfolding textAt
+text-out s x f n p q h =
+    let k : length s < x / 256 + x % 256 = omega arith in
+    rw (lt-leb _ _ k)
+
+-- the number that names the text from a up to e
+pub text-part : (s : Text) (a e : ℕ) → a ≤ e → e ≤ length s → e - a < 256 → textAt s (a * 256 + (e - a)) ≡ part a e s
+unfolding textAt
+text-part s a e h k l =
+    let m : a + (e - a) ≤ length s = omega arith in
+    rw (digits-div a l, digits-mod a l, le-leb _ _ m)
+
+pub texts-append : (s : Text) (xs : List ℕ) (x : ℕ) → textsAt s (xs ++ x ∷ []) ≡ textsAt s xs ++ textAt s x ∷ []
+unfolding textsAt
+texts-append s xs x = map-append (textAt s) xs (x ∷ [])
+
+pub texts-length : (s : Text) (xs : List ℕ) → length (textsAt s xs) ≡ length xs
+unfolding textsAt
+texts-length s xs = length-map xs (textAt s)
+
+-- ---- the last of a list
+pub on-last-snoc {ℓ} : {A : Type ℓ} (f : A → A) (xs : List A) (y : A) → onLast f (xs ++ y ∷ []) ≡ xs ++ f y ∷ []
+unfolding onLast
+on-last-snoc f [] y = refl
+on-last-snoc f (x ∷ []) y = refl
+on-last-snoc f (x ∷ z ∷ zs) y = ap (λ l. x ∷ l) (on-last-snoc f (z ∷ zs) y)
+
+pub on-last-same {ℓ} : {A : Type ℓ} (f g : A → A) (xs : List A) → ((x : A) → f x ≡ g x) → onLast f xs ≡ onLast g xs
+unfolding onLast
+on-last-same f g [] h = refl
+on-last-same f g (x ∷ []) h = ap (λ y. y ∷ []) (h x)
+on-last-same f g (x ∷ z ∷ zs) h = ap (λ l. x ∷ l) (on-last-same f g (z ∷ zs) h)
+
+-- ---- regions
+module _ (w : List ℕ) (a n : ℕ) where
+  pub region-length : a + n ≤ length w → length (region w a n) ≡ n
+  unfolding region
+  region-length h = simp (length-take, length-drop) (omega arith)
+
+  -- a write outside leaves it
+  pub region-apart : (j x : ℕ) → (a ≤ j → a + n ≤ j) → region (set w j x) a n ≡ region w a n
+  unfolding region
+  region-apart j x h = go (decLt j a)
+    where
+      go : Dec (j < a) → take n (drop a (set w j x)) ≡ take n (drop a w)
+      go (yes l) = ap (take n) (drop-set-lt a w j x l)
+      go (no l) =
+          let m : a + n ≤ j = h (omega arith) in
+          let e : j ≡ a + (j - a) = omega arith in
+          let k : n ≤ j - a = omega arith in
+          ap (λ (i : ℕ). take n (drop a (set w i x))) e
+          ∙ ap (take n) (drop-set-add a w (j - a) x)
+          ∙ take-set-le n (drop a w) (j - a) x k
+
+  -- a write behind its last place makes it longer
+  pub region-append : (x : ℕ) → a + n < length w → region (set w (a + n) x) a (n + 1) ≡ region w a n ++ x ∷ []
+  unfolding region
+  region-append x h =
+      let k : n < length (drop a w) = rw (length-drop a w) (omega arith) in
+      rw (add-one n, drop-set-add a w n x) (take-suc-set (drop a w) n x k)
+
+  region-snoc : a + n < length w → region w a (suc n) ≡ region w a n ++ getD w (a + n) 0 ∷ []
+  unfolding region
+  region-snoc h =
+      let k : n < length (drop a w) = rw (length-drop a w) (omega arith) in
+      take-suc (drop a w) n 0 k ∙ rw (getD-drop a w n 0)
+
+  region-at : (i : ℕ) → i < n → getD (region w a n) i 0 ≡ getD w (a + i) 0
+  unfolding region
+  region-at i h = rw (getD-take, getD-drop)
+
+-- a write at the last place changes the last, where there is one
+pub region-last : (w : List ℕ) (a n : ℕ) (f : ℕ → ℕ) → a + n < length w → region (set w (a + n) (f (getD w (a + n) 0))) (a + 1) n ≡ onLast f (region w (a + 1) n)
+unfolding region onLast
+region-last w a zero f h = refl
+region-last w a (suc n) f h =
+    let e : a + suc n ≡ a + 1 + n = omega arith in
+    let k : a + 1 + n < length w = omega arith in
+    let m : suc n ≡ n + 1 = omega arith in
+    rw e
+    (ap (region (set w (a + 1 + n) (f (getD w (a + 1 + n) 0))) (a + 1)) m
+    ∙ region-append w (a + 1) n (f (getD w (a + 1 + n) 0)) k
+    ∙ sym (ap (onLast f) (region-snoc w (a + 1) n k) ∙ on-last-snoc f (region w (a + 1) n) (getD w (a + 1 + n) 0)))
+
+-- ---- the search among the texts that a region's numbers name
+pub index-start : (t : Text) (us : List Text) → indexOf t us ≡ 0 + indexOf t (drop 0 us)
+index-start t us = omega arith
+
+module _ (s t : Text) (w : List ℕ) (a n k : ℕ) (room : a + n ≤ length w) where
+  texts-next : k < n → drop k (textsAt s (region w a n)) ≡ textAt s (getD w (a + k) 0) ∷ drop (k + 1) (textsAt s (region w a n))
+  unfolding textsAt
+  texts-next h =
+      let l : k < length (region w a n) = rw (region-length w a n room) h in
+      let m : k < length (textsAt s (region w a n)) = rw (texts-length s (region w a n)) l in
+      drop-cons (textsAt s (region w a n)) k (textAt s 0) m
+      ∙ rw (add-one k, List·getD-map (textAt s) (region w a n) k 0, region-at w a n k h)
+
+  module _ (v : indexOf t (textsAt s (region w a n)) ≡ k + indexOf t (drop k (textsAt s (region w a n)))) where
+    pub index-hit : (u : Text) (r : Bool) → k < n → u ≡ textAt s (getD w (a + k) 0) → r ≡ same u t → r ≡ true
+        → k ≡ indexOf t (textsAt s (region w a n))
+    unfolding indexOf
+    index-hit u r h e q y = sym (v ∙ rw (texts-next h, ← e, ← q, y) (add-zero k))
+
+    pub index-miss : (u : Text) (r : Bool) → k < n → u ≡ textAt s (getD w (a + k) 0) → r ≡ same u t → r ≡ false
+        → indexOf t (textsAt s (region w a n)) ≡ k + 1 + indexOf t (drop (k + 1) (textsAt s (region w a n)))
+    unfolding indexOf
+    index-miss u r h e q y = v ∙ rw (texts-next h, ← e, ← q, y) (omega arith)
+
+    pub index-none : n ≤ k → k ≡ indexOf t (textsAt s (region w a n))
+    unfolding indexOf
+    index-none h =
+        let l : length (textsAt s (region w a n)) ≤ k = rw (texts-length s (region w a n), region-length w a n room) h in
+        sym (v ∙ rw (drop-of-length-le (textsAt s (region w a n)) l) (add-zero k))
+
+-- what is found stands among them, and what is not found has their number
+pub index-bound : (t : Text) (us : List Text) → indexOf t us ≤ length us
+unfolding indexOf
+index-bound t [] = omega arith
+index-bound t (u ∷ us) = go (same u t) (index-bound t us)
+  where
+    go : (b : Bool) → indexOf t us ≤ length us → cond b 0 (suc (indexOf t us)) ≤ suc (length us)
+    go true h = omega arith
+    go false h = omega arith
+
+pub indexed-known : (t : Text) (us : List Text) → indexOf t us < length us → indexed t us ≡ us
+unfolding indexed
+indexed-known t us h = rw (lt-ltb _ _ h)
+
+pub indexed-new : (t : Text) (us : List Text) → length us ≤ indexOf t us → indexed t us ≡ us ++ t ∷ []
+unfolding indexed
+indexed-new t us h = rw (le-ltb _ _ h)

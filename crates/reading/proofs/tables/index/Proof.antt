@@ -1,0 +1,66 @@
+-- `tables::index` meets its contract: the loop leaves off the texts that it has passed.
+use borrow.Author.Needs.{needs}
+use mathlib.Core.Path.{_≡_}
+use Prim.Native.Nat.{_+_, _-_}
+use lib.ListN.{drop}
+use Rattle.reading.specs.Tables.{indexOf, textsAt, region}
+use Rattle.reading.proofs.Regions.{index-start, index-hit, index-miss, index-none}
+use Rattle.reading.proofs.tables.index.Statement.{statement}
+use Rattle.reading.proofs.tables.index.Tie as tie
+
+abbrev Inv-loop : tie.InvT-loop
+Inv-loop s w base n t k₀ k = indexOf t (textsAt s (region w base n)) ≡ k + indexOf t (drop k (textsAt s (region w base n)))
+
+abbrev μ-loop : tie.MeasureT-loop
+μ-loop s w base n t k₀ k = n - k
+
+loop-holds : tie.Need-loop-holds Inv-loop μ-loop
+loop-holds c = search (needs, index-start)
+
+add-text-at : tie.Need-add-text-at Inv-loop μ-loop
+add-text-at c = search needs
+
+mul-text-at : tie.Need-mul-text-at Inv-loop μ-loop
+mul-text-at c = search needs
+
+shared-slice-read-text-at : tie.Need-shared-slice-read-text-at Inv-loop μ-loop
+shared-slice-read-text-at c = search needs
+
+text-at-requires : tie.Need-text-at-requires Inv-loop μ-loop
+text-at-requires c κs = search needs
+
+are-same-requires : tie.Need-are-same-requires Inv-loop μ-loop
+are-same-requires c κs = search needs
+
+returns : tie.Need-returns Inv-loop μ-loop
+returns c = search (needs, index-hit)
+
+add-k : tie.Need-add-k Inv-loop μ-loop
+add-k c = search needs
+
+loop-less : tie.Need-loop-less Inv-loop μ-loop
+loop-less c = search needs
+
+loop-again : tie.Need-loop-again Inv-loop μ-loop
+loop-again c = search (needs, index-miss)
+
+returns-2 : tie.Need-returns-2 Inv-loop μ-loop
+returns-2 c = search (needs, index-none)
+
+pub index-spec : {M : Type 1} → statement M
+index-spec =
+    tie.close
+    (tie.spec
+    Inv-loop
+    μ-loop
+    loop-holds
+    add-text-at
+    mul-text-at
+    shared-slice-read-text-at
+    text-at-requires
+    are-same-requires
+    returns
+    add-k
+    loop-less
+    loop-again
+    returns-2)

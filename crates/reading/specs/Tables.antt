@@ -1,0 +1,513 @@
+-- The work table, and reading as it goes over it. `proofs/` shows that this is the reading of Refusals and the listing of Listings.
+use Prim.Native.Nat.{ℕ, zero, suc, _+_, _-_, _*_, _/_, _%_, _≤_, _<_}
+use mathlib.Core.Path.{_≡_}
+use mathlib.Core.Bool.{Bool, true, false, not, cond}
+use mathlib.Core.List.{List, [], _∷_, _++_, map}
+use mathlib.Core.Option.{Option, none, some}
+use lib.ListN.{length, take, drop}
+use lib.Dec.{ltb, leb}
+use lib.Bits.{bitOr}
+use Rattle.reading.specs.Texts.{Text, bytes, same, run, onLast, part}
+use Rattle.reading.specs.Lines.{Line, linesOf}
+use Rattle.reading.specs.Records.{Record, formed, placeOf, mayFollow, isKind, isStar}
+use Rattle.reading.specs.Names.{isRoleName, isName, isMethodName, isPattern, isConstraintKind}
+use Rattle.reading.specs.Limits.{mostConstraints, mostCollections, mostPatterns, mostMethodLines, mostRoles, mostMethods}
+use Rattle.reading.specs.Sets.{withMember, withoutMember, everything, lowest}
+use Rattle.reading.specs.declared.records.Kind.{Kind}
+use Rattle.reading.specs.declared.records.Kind.the-variants.{Role, Constraint, Allow, Collection, Pattern, Method, Omit, End}
+use Rattle.reading.specs.declared.records.Place.{Place}
+use Rattle.reading.specs.declared.records.Place.the-variants.{AfterFirst, AfterRole, AfterOpen, AfterAuth, AfterAllow, AfterCollection, AfterPattern, AfterMethod, AfterOmit, AfterEnd}
+use Rattle.reading.specs.declared.answers.Fault.{Fault}
+use Rattle.reading.specs.declared.answers.Fault.the-variants.{LongListing, BadFirstLine, BadForm, WrongPlace, BadName, BadPattern, RoleTwice, PastMost, NoEnd}
+use Rattle.reading.specs.Refusals.{Reading, accepted, refusal, readingOf}
+use Rattle.reading.specs.Listings.{recordsOf}
+use Rattle.reading.specs.declared.tables.Tally.{Tally}
+use Rattle.reading.specs.declared.steps.Stepped.{Stepped}
+use Rattle.reading.specs.declared.steps.Stepped.the-variants.{Next, Wrong}
+use Rattle.reading.specs.declared.reader.Cursor.{Cursor}
+use Rattle.reading.specs.declared.reader.Lined.{Lined}
+use Rattle.reading.specs.declared.reader.Lined.the-variants.{Moved, Ended, Bad}
+use Rattle.reading.specs.declared.reader.Loaded.{Loaded}
+use Rattle.reading.specs.declared.reader.Loaded.the-variants.{Whole, Not}
+
+-- ---- what stands in the table, as lists
+-- place and lines: where the reader stands, and the `method` and `omit` lines so far
+-- declared: how many of the roles are declared
+-- patterns, owners, parents: the `pattern` lines, each with the number of its collection and of its constraint, from 1
+-- covers: for each collection the methods that it covers, and at the digits of no method those that nothing names
+-- allows: for each constraint the roles that it allows
+-- marks: for each constraint 0 for `open`, 1 for `auth` without `allow`, 2 for `auth` with one
+pub record Tables : Type 0 where
+  pub place : Place
+  pub lines : ℕ
+  pub declared : ℕ
+  pub roles : List Text
+  pub methods : List Text
+  pub patterns : List Text
+  pub owners : List ℕ
+  pub parents : List ℕ
+  pub covers : List ℕ
+  pub allows : List ℕ
+  pub marks : List ℕ
+
+abbrev pub startTables : Tables
+startTables = record {
+  place = AfterFirst;
+  lines = 0;
+  declared = 0;
+  roles = [];
+  methods = [];
+  patterns = [];
+  owners = [];
+  parents = [];
+  covers = [];
+  allows = [];
+  marks = [];
+}
+
+-- the place of t among the texts, or their number where it is none of them
+unfoldable pub indexOf : Text → List Text → ℕ
+unfolding same
+indexOf t [] = 0
+indexOf t (u ∷ us) = cond (same u t) 0 (suc (indexOf t us))
+
+-- t put behind them, if it is none of them
+unfoldable pub indexed : Text → List Text → List Text
+unfolding indexOf
+indexed t us = cond (ltb (indexOf t us) (length us)) us (us ++ t ∷ [])
+
+-- ---- what a record adds
+abbrev pub addRole : Tables → Text → Tables
+addRole T n = record {
+  place = AfterRole;
+  lines = T .lines;
+  declared = T .declared + 1;
+  roles = T .roles ++ n ∷ [];
+  methods = T .methods;
+  patterns = T .patterns;
+  owners = T .owners;
+  parents = T .parents;
+  covers = T .covers;
+  allows = T .allows;
+  marks = T .marks;
+}
+
+abbrev pub addConstraint : Tables → Text → Tables
+addConstraint T word = record {
+  place = cond (same word (bytes "open")) AfterOpen AfterAuth;
+  lines = T .lines;
+  declared = T .declared;
+  roles = T .roles;
+  methods = T .methods;
+  patterns = T .patterns;
+  owners = T .owners;
+  parents = T .parents;
+  covers = T .covers;
+  allows = T .allows ++ 0 ∷ [];
+  marks = T .marks ++ cond (same word (bytes "open")) 0 1 ∷ [];
+}
+
+-- the roles that `allow⇥NAME` adds to the set x
+abbrev pub addAllowTo : Tables → Text → ℕ → ℕ
+addAllowTo T n x = cond (isStar n) (bitOr x (lowest (T .declared))) (withMember x (indexOf n (T .roles)))
+
+abbrev pub addAllow : Tables → Text → Tables
+addAllow T n = record {
+  place = AfterAllow;
+  lines = T .lines;
+  declared = T .declared;
+  roles = cond (isStar n) (T .roles) (indexed n (T .roles));
+  methods = T .methods;
+  patterns = T .patterns;
+  owners = T .owners;
+  parents = T .parents;
+  covers = T .covers;
+  allows = onLast (addAllowTo T n) (T .allows);
+  marks = onLast (λ (x : ℕ). 2) (T .marks);
+}
+
+abbrev pub addCollection : Tables → Text → Tables
+addCollection T t = record {
+  place = AfterCollection;
+  lines = T .lines;
+  declared = T .declared;
+  roles = T .roles;
+  methods = T .methods;
+  patterns = T .patterns;
+  owners = T .owners;
+  parents = T .parents;
+  covers = T .covers ++ everything ∷ [];
+  allows = T .allows;
+  marks = T .marks;
+}
+
+abbrev pub addPattern : Tables → Text → Tables
+addPattern T t = record {
+  place = AfterPattern;
+  lines = T .lines;
+  declared = T .declared;
+  roles = T .roles;
+  methods = T .methods;
+  patterns = T .patterns ++ t ∷ [];
+  owners = T .owners ++ length (T .covers) ∷ [];
+  parents = T .parents ++ length (T .marks) ∷ [];
+  covers = T .covers;
+  allows = T .allows;
+  marks = T .marks;
+}
+
+-- the first `method` line of a collection takes all others out
+abbrev pub isFirstMethod : Place → Bool
+isFirstMethod AfterFirst = false
+isFirstMethod AfterRole = false
+isFirstMethod AfterOpen = false
+isFirstMethod AfterAuth = false
+isFirstMethod AfterAllow = false
+isFirstMethod AfterCollection = false
+isFirstMethod AfterPattern = true
+isFirstMethod AfterMethod = false
+isFirstMethod AfterOmit = false
+isFirstMethod AfterEnd = false
+
+abbrev pub addMethodTo : Tables → Text → ℕ → ℕ
+addMethodTo T m x = withMember (cond (isFirstMethod (T .place)) 0 x) (indexOf m (T .methods))
+
+abbrev pub addMethod : Tables → Text → Tables
+addMethod T m = record {
+  place = AfterMethod;
+  lines = T .lines + 1;
+  declared = T .declared;
+  roles = T .roles;
+  methods = indexed m (T .methods);
+  patterns = T .patterns;
+  owners = T .owners;
+  parents = T .parents;
+  covers = onLast (addMethodTo T m) (T .covers);
+  allows = T .allows;
+  marks = T .marks;
+}
+
+abbrev pub addOmit : Tables → Text → Tables
+addOmit T m = record {
+  place = AfterOmit;
+  lines = T .lines + 1;
+  declared = T .declared;
+  roles = T .roles;
+  methods = indexed m (T .methods);
+  patterns = T .patterns;
+  owners = T .owners;
+  parents = T .parents;
+  covers = onLast (λ (x : ℕ). withoutMember x (indexOf m (T .methods))) (T .covers);
+  allows = T .allows;
+  marks = T .marks;
+}
+
+abbrev pub addEnd : Tables → Text → Tables
+addEnd T t = record {
+  place = AfterEnd;
+  lines = T .lines;
+  declared = T .declared;
+  roles = T .roles;
+  methods = T .methods;
+  patterns = T .patterns;
+  owners = T .owners;
+  parents = T .parents;
+  covers = T .covers;
+  allows = T .allows;
+  marks = T .marks;
+}
+
+-- what a record of that kind adds
+unfoldable pub fieldAdd : Kind → Tables → Text → Tables
+unfolding indexOf indexed onLast isStar same
+fieldAdd Role T t = addRole T t
+fieldAdd Constraint T t = addConstraint T t
+fieldAdd Allow T t = addAllow T t
+fieldAdd Collection T t = addCollection T t
+fieldAdd Pattern T t = addPattern T t
+fieldAdd Method T t = addMethod T t
+fieldAdd Omit T t = addOmit T t
+fieldAdd End T t = addEnd T t
+
+abbrev pub tablesWith : Tables → Record → Tables
+tablesWith T r = fieldAdd (r .kind) T (r .field)
+
+-- the tables of those records
+unfoldable pub tablesOf : List Record → Tables
+unfolding run fieldAdd
+tablesOf rs = run tablesWith startTables rs
+
+-- ---- what refuses a record
+abbrev pub checkRole : Tables → Text → Option Fault
+checkRole T n =
+    cond (not (isRoleName n)) (some BadName)
+    (cond (ltb (indexOf n (T .roles)) (length (T .roles))) (some RoleTwice)
+    (cond (leb mostRoles (length (T .roles))) (some PastMost)
+    none))
+
+abbrev pub checkConstraint : Tables → Text → Option Fault
+checkConstraint T word =
+    cond (not (isConstraintKind word)) (some BadName)
+    (cond (leb mostConstraints (length (T .marks))) (some PastMost)
+    none)
+
+abbrev pub checkAllow : Tables → Text → Option Fault
+checkAllow T n =
+    cond (not (isName n)) (some BadName)
+    (cond (isStar n) none
+    (cond (ltb (indexOf n (T .roles)) (length (T .roles))) none
+    (cond (leb mostRoles (length (T .roles))) (some PastMost)
+    none)))
+
+abbrev pub checkCollection : Tables → Text → Option Fault
+checkCollection T t = cond (leb mostCollections (length (T .covers))) (some PastMost) none
+
+abbrev pub checkPattern : Tables → Text → Option Fault
+checkPattern T t =
+    cond (not (isPattern t)) (some BadPattern)
+    (cond (leb mostPatterns (length (T .patterns))) (some PastMost)
+    none)
+
+abbrev pub checkMethod : Tables → Text → Option Fault
+checkMethod T m =
+    cond (not (isMethodName m)) (some BadName)
+    (cond (leb mostMethodLines (T .lines)) (some PastMost)
+    (cond (ltb (indexOf m (T .methods)) (length (T .methods))) none
+    (cond (leb mostMethods (length (T .methods))) (some PastMost)
+    none)))
+
+-- what refuses a record of that kind in its right place
+unfoldable pub fieldCheck : Kind → Tables → Text → Option Fault
+unfolding indexOf
+fieldCheck Role T t = checkRole T t
+fieldCheck Constraint T t = checkConstraint T t
+fieldCheck Allow T t = checkAllow T t
+fieldCheck Collection T t = checkCollection T t
+fieldCheck Pattern T t = checkPattern T t
+fieldCheck Method T t = checkMethod T t
+fieldCheck Omit T t = checkMethod T t
+fieldCheck End T t = none
+
+unfoldable pub checkRecord : Tables → Record → Option Fault
+unfolding fieldCheck
+checkRecord T r = cond (mayFollow (T .place) (r .kind)) (fieldCheck (r .kind) T (r .field)) (some WrongPlace)
+
+-- ---- a step, a line, and all of them
+pub data Stepping : Type 0 where
+  next : Tables → Stepping
+  wrong : Fault → Stepping
+
+abbrev pub steppedBy : Option Fault → Tables → Stepping
+steppedBy none T = next T
+steppedBy (some f) T = wrong f
+
+abbrev pub recordWith : Kind → Text → Record
+recordWith k t = record { kind = k; field = t }
+
+unfoldable pub stepFrom : Tables → Record → Stepping
+unfolding checkRecord fieldAdd
+stepFrom T r = steppedBy (checkRecord T r) (tablesWith T r)
+
+-- what a line comes to: a fault, or the tables after it and the lines behind it, `end` told apart
+pub data Lining : Type 0 where
+  bad : Fault → Lining
+  moved : Tables → List Line → Lining
+  ended : Tables → List Line → Lining
+
+abbrev pub isEndKind : Kind → Bool
+isEndKind k = isKind End (record { kind = k; field = [] })
+
+abbrev pub linedBy : Bool → Stepping → List Line → Lining
+linedBy isEnd (wrong f) ls = bad f
+linedBy true (next T) ls = ended T ls
+linedBy false (next T) ls = moved T ls
+
+abbrev pub lineWith : Tables → Option Record → List Line → Lining
+lineWith T none ls = bad BadForm
+lineWith T (some r) ls = linedBy (isKind End r) (stepFrom T r) ls
+
+unfoldable pub lineFrom : Tables → List Line → Lining
+unfolding formed stepFrom
+lineFrom T [] = bad NoEnd
+lineFrom T (l ∷ ls) = lineWith T (formed l) ls
+
+pub data Filling : Type 0 where
+  filled : Tables → Filling
+  unfilled : Fault → ℕ → Filling
+
+abbrev pub closing : Tables → ℕ → List Line → Filling
+closing T n [] = filled T
+closing T n (l ∷ ls) = unfilled NoEnd n
+
+-- reading from line n on
+unfoldable pub fillFrom : Tables → ℕ → List Line → Filling
+unfolding formed stepFrom
+fillFrom T n [] = unfilled NoEnd n
+fillFrom T n (l ∷ ls) =
+    elim (lineWith T (formed l) ls) [
+      | bad f ↦ unfilled f n
+      | moved U ks ↦ fillFrom U (suc n) ls
+      | ended U ks ↦ closing U (suc n) ls
+    ]
+
+abbrev pub answerOf : Filling → Reading
+answerOf (filled T) = accepted
+answerOf (unfilled f n) = refusal f n
+
+-- ---- the numbers of the table
+-- where each list begins; covers, allows and marks are counted from 1, and the number at their place 0 means nothing
+abbrev pub rolesAt : ℕ
+rolesAt = 0
+
+abbrev pub methodsAt : ℕ
+methodsAt = 32
+
+abbrev pub patternsAt : ℕ
+patternsAt = 64
+
+abbrev pub ownersAt : ℕ
+ownersAt = 192
+
+abbrev pub parentsAt : ℕ
+parentsAt = 320
+
+abbrev pub coversAt : ℕ
+coversAt = 448
+
+abbrev pub allowsAt : ℕ
+allowsAt = 580
+
+abbrev pub marksAt : ℕ
+marksAt = 650
+
+-- the numbers that a listing takes
+abbrev pub listingRoom : ℕ
+listingRoom = 720
+
+-- n numbers of the table from place a on
+unfoldable pub region : List ℕ → ℕ → ℕ → List ℕ
+region w a n = take n (drop a w)
+
+-- the text that a number names: its place times 256, and its length; none where it would run past the end
+unfoldable pub textAt : Text → ℕ → Text
+textAt s x = cond (leb (x / 256 + x % 256) (length s)) (take (x % 256) (drop (x / 256) s)) []
+
+unfoldable pub textsAt : Text → List ℕ → List Text
+unfolding textAt
+textsAt s xs = map (textAt s) xs
+
+-- the table's numbers as lists, by the counts
+unfoldable pub tablesAt : Text → Tally → List ℕ → Tables
+unfolding region textsAt
+tablesAt s t w = record {
+  place = t .place;
+  lines = t .lines;
+  declared = t .declared;
+  roles = textsAt s (region w rolesAt (t .roles));
+  methods = textsAt s (region w methodsAt (t .methods));
+  patterns = textsAt s (region w patternsAt (t .patterns));
+  owners = region w ownersAt (t .patterns);
+  parents = region w parentsAt (t .patterns);
+  covers = region w (coversAt + 1) (t .collections);
+  allows = region w (allowsAt + 1) (t .constraints);
+  marks = region w (marksAt + 1) (t .constraints);
+}
+
+-- the counts within their limits, the text too, and the room for them
+pub record Fits (s : Text) (t : Tally) (w : List ℕ) : Type 0 where
+  pub short : length s ≤ 24576
+  pub room : listingRoom ≤ length w
+  pub declared : t .declared ≤ t .roles
+  pub roles : t .roles ≤ 32
+  pub methods : t .methods ≤ 31
+  pub patterns : t .patterns ≤ 128
+  pub lines : t .lines ≤ 512
+  pub collections : t .collections ≤ 128
+  pub constraints : t .constraints ≤ 64
+
+-- ---- the program's answers in those terms
+abbrev pub stepShown : Text → Stepped → List ℕ → Stepping
+stepShown s (Next t) w = next (tablesAt s t w)
+stepShown s (Wrong f) w = wrong f
+
+abbrev pub StepFits : Text → Stepped → List ℕ → Type 0
+StepFits s (Next t) w = Fits s t w
+StepFits s (Wrong f) w = Unit {0}
+
+pub record StepOutcome (s : Text) (due : Stepping) (out : Stepped) (w : List ℕ) : Type 0 where
+  pub answer : stepShown s out w ≡ due
+  pub fits : StepFits s out w
+
+-- a record's field in the text, and counts that fit
+pub record Field (s : Text) (t : Tally) (w : List ℕ) (a e : ℕ) : Type 0 where
+  pub fits : Fits s t w
+  pub from : a ≤ e
+  pub to : e ≤ length s
+
+-- the outcome of a step with the field from a up to e
+abbrev pub Steps : (Tables → Text → Option Fault) → (Tables → Text → Tables) → Text → Tally → List ℕ → ℕ → ℕ → Stepped → List ℕ → Type 0
+Steps check add s t w a e out left =
+    StepOutcome s (steppedBy (check (tablesAt s t w) (part a e s)) (add (tablesAt s t w) (part a e s))) out left
+
+abbrev pub lineShown : Text → Lined → List ℕ → Lining
+lineShown s (Moved t c) w = moved (tablesAt s t w) (linesOf (drop (c .at) s))
+lineShown s (Ended t c) w = ended (tablesAt s t w) (linesOf (drop (c .at) s))
+lineShown s (Bad f) w = bad f
+
+-- counts that fit, and a cursor that has gone on by one line
+pub record Gone (s : Text) (c : Cursor) (t : Tally) (d : Cursor) (w : List ℕ) : Type 0 where
+  pub fits : Fits s t w
+  pub on : c .at < d .at
+  pub within : d .at ≤ length s
+  pub counted : d .line ≡ c .line + 1
+
+abbrev pub LineFits : Text → Cursor → Lined → List ℕ → Type 0
+LineFits s c (Moved t d) w = Gone s c t d w
+LineFits s c (Ended t d) w = Gone s c t d w
+LineFits s c (Bad f) w = Unit {0}
+
+pub record LineOutcome (s : Text) (c : Cursor) (due : Lining) (out : Lined) (w : List ℕ) : Type 0 where
+  pub answer : lineShown s out w ≡ due
+  pub fits : LineFits s c out w
+
+-- the line at the cursor ends at e
+pub record LineEnd (s : Text) (c : Cursor) (e : ℕ) : Type 0 where
+  pub here : e < length s
+  pub from : c .at ≤ e
+  pub few : c .line ≤ 100000
+
+-- what stands behind the `end` line
+unfoldable pub closedAt : Text → Tally → Cursor → Loaded
+closedAt s t c = cond (ltb (c .at) (length s)) (Not NoEnd (c .line)) (Whole t)
+
+abbrev pub fillShown : Text → Loaded → List ℕ → Filling
+fillShown s (Whole t) w = filled (tablesAt s t w)
+fillShown s (Not f n) w = unfilled f n
+
+abbrev pub FillFits : Text → Loaded → List ℕ → Type 0
+FillFits s (Whole t) w = Fits s t w
+FillFits s (Not f n) w = Unit {0}
+
+pub record FillOutcome (s : Text) (due : Filling) (out : Loaded) (w : List ℕ) : Type 0 where
+  pub answer : fillShown s out w ≡ due
+  pub fits : FillFits s out w
+
+-- ---- what the crates above know
+-- the table, with its counts, holds the listing that the text is
+pub record Holds (s : Text) (t : Tally) (w : List ℕ) : Type 0 where
+  pub accepts : readingOf s ≡ accepted
+  pub tables : tablesAt s t w ≡ tablesOf (recordsOf s)
+  pub fits : Fits s t w
+
+-- what reading answered
+abbrev pub readingShown : Loaded → Reading
+readingShown (Whole t) = accepted
+readingShown (Not f n) = refusal f n
+
+abbrev pub LoadHolds : Text → Loaded → List ℕ → Type 0
+LoadHolds s (Whole t) w = Holds s t w
+LoadHolds s (Not f n) w = Unit {0}
+
+pub record LoadOutcome (s : Text) (out : Loaded) (w : List ℕ) : Type 0 where
+  pub answer : readingShown out ≡ readingOf s
+  pub holds : LoadHolds s out w

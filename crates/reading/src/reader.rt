@@ -1,0 +1,263 @@
+// The reader: line by line over a lent listing, with the lent work table as its memory.
+ghost use mathlib.Core.Path.{_≡_};
+ghost use Prim.Native.Nat.{_+_, _≤_, _<_};
+ghost use lib.ListN.{length, drop};
+ghost use Rattle.reading.specs.Texts.{bytes, all, part, startsWith};
+ghost use Rattle.reading.specs.Bytes.{isText, classTable};
+ghost use Rattle.reading.specs.Lines.{linesOf};
+ghost use Rattle.reading.specs.Records.{recordNamed};
+ghost use Rattle.reading.specs.Refusals.{readingOf};
+ghost use Rattle.reading.specs.Outcomes.{reportOf, zeroed, ReadOutcome};
+ghost use Rattle.reading.specs.Tables.{Fits, Field, LineEnd, LineOutcome, FillOutcome, LoadOutcome, lineWith, lineFrom, fillFrom, tablesAt, startTables, isEndKind, closedAt, readingShown};
+use crate::answers;
+use crate::answers::Fault;
+use crate::answers::Report;
+use crate::bytes;
+use crate::records;
+use crate::records::Kind;
+use crate::records::Named;
+use crate::steps;
+use crate::steps::Stepped;
+use crate::tables::Tally;
+use crate::texts;
+
+// A place in the listing: the next byte, and the number of its line.
+pub struct Cursor {
+    pub at: usize,
+    pub line: u32,
+}
+
+// What a line comes to: on to the next, the end of the listing, or a fault.
+pub enum Lined {
+    Moved(Tally, Cursor),
+    Ended(Tally, Cursor),
+    Bad(Fault),
+}
+
+// What reading comes to: the counts of the filled table, or a fault and its line.
+pub enum Loaded {
+    Whole(Tally),
+    Not(Fault, u32),
+}
+
+impl Cursor {
+    // The cursor behind the line that ends at e.
+    pub fn past(self, e: usize) -> Cursor
+        requires { ⌜ (e < 100000) × (self .line ≤ 100000) ⌝ }
+        ensures { λ r. ⌜ r ≡ record { at = e + 1; line = self .line + 1 } ⌝ }
+    {
+        Cursor {
+            at: e + 1,
+            line: self.line + 1,
+        }
+    }
+}
+
+pub fn is_end(k: Kind) -> bool
+    ensures { λ r. ⌜ r ≡ isEndKind k ⌝ }
+{
+    match k {
+        Kind::Role => false,
+        Kind::Constraint => false,
+        Kind::Allow => false,
+        Kind::Collection => false,
+        Kind::Pattern => false,
+        Kind::Method => false,
+        Kind::Omit => false,
+        Kind::End => true,
+    }
+}
+
+// A line whose record is named n, or is not: its field is the bytes of s from a up to e, where the line ends.
+pub fn line_named(
+    table: &[u8; 256],
+    s: &[u8],
+    w: &mut [u32],
+    t: Tally,
+    c: Cursor,
+    n: Named,
+    a: usize,
+    e: usize,
+    clean: bool,
+) -> Lined
+    requires { ⌜ (now table ≡ classTable) × (Field (now s) t (now w) a e × ((clean ≡ all isText (part a e (now s))) × LineEnd (now s) c e)) ⌝ }
+    ensures { λ r. ⌜ LineOutcome (now (s .entry)) c (lineWith (tablesAt (now (s .entry)) t (now (w .entry))) (recordNamed n (part a e (now (s .entry)))) (linesOf (drop (e + 1) (now (s .entry))))) r (now (w .exit)) ⌝ }
+{
+    match n {
+        Named::Unknown => Lined::Bad(Fault::BadForm),
+        Named::Known(k) => {
+            let stepped = steps::step(table, s, w, t, k, a, e, clean);
+            match stepped {
+                Stepped::Wrong(f) => Lined::Bad(f),
+                Stepped::Next(u) => {
+                    if is_end(k) {
+                        return Lined::Ended(u, c.past(e));
+                    }
+                    Lined::Moved(u, c.past(e))
+                }
+            }
+        }
+    }
+}
+
+// The line at the cursor.
+pub fn line(table: &[u8; 256], s: &[u8], w: &mut [u32], t: Tally, c: Cursor) -> Lined
+    requires { ⌜ (now table ≡ classTable) × (Fits (now s) t (now w) × ((c .at < length (now s)) × (c .line ≤ 100000))) ⌝ }
+    ensures { λ r. ⌜ LineOutcome (now (s .entry)) c (lineFrom (tablesAt (now (s .entry)) t (now (w .entry))) (linesOf (drop (c .at) (now (s .entry))))) r (now (w .exit)) ⌝ }
+{
+    let at = c.at;
+    let name = texts::scan(table, s, at);
+    let p = name.end;
+    if s.len() <= p {
+        return Lined::Bad(Fault::BadForm);
+    }
+    if s[p] == 10 {
+        return line_named(
+            table,
+            s,
+            w,
+            t,
+            c,
+            records::named_alone(&s[at..p]),
+            p,
+            p,
+            true,
+        );
+    }
+    let a = p + 1;
+    let field = texts::scan(table, s, a);
+    let e = field.end;
+    let clean = field.clean;
+    if s.len() <= e {
+        return Lined::Bad(Fault::BadForm);
+    }
+    if s[e] != 10 {
+        return Lined::Bad(Fault::BadForm);
+    }
+    line_named(
+        table,
+        s,
+        w,
+        t,
+        c,
+        records::named_with_field(&s[at..p]),
+        a,
+        e,
+        clean,
+    )
+}
+
+// The lines behind the first.
+pub fn fill(table: &[u8; 256], s: &[u8], w: &mut [u32]) -> Loaded
+    requires { ⌜ (now table ≡ classTable) × ((length (now s) ≤ 24576) × ((14 ≤ length (now s)) × (720 ≤ length (now w)))) ⌝ }
+    ensures { λ r. ⌜ FillOutcome (now (s .entry)) (fillFrom startTables 2 (linesOf (drop 14 (now (s .entry))))) r (now (w .exit)) ⌝ }
+{
+    let mut t = Tally::start();
+    let mut c = Cursor { at: 14, line: 2 };
+    while c.at < s.len() {
+        let lined = line(table, s, w, t, c);
+        match lined {
+            Lined::Bad(f) => return Loaded::Not(f, c.line),
+            Lined::Ended(u, d) => return closed(s, u, d),
+            Lined::Moved(u, d) => {
+                t = u;
+                c = d;
+            }
+        }
+    }
+    Loaded::Not(Fault::NoEnd, c.line)
+}
+
+// Behind the `end` line.
+pub fn closed(s: &[u8], t: Tally, c: Cursor) -> Loaded
+    ensures { λ r. ⌜ r ≡ closedAt (now (s .entry)) t c ⌝ }
+{
+    let at = c.at;
+    let line = c.line;
+    if at < s.len() {
+        return Loaded::Not(Fault::NoEnd, line);
+    }
+    Loaded::Whole(t)
+}
+
+// Whether s begins with the first line, its byte 10 too.
+pub fn has_first_line(s: &[u8]) -> bool
+    ensures { λ r. ⌜ r ≡ startsWith (bytes "constraints\t1\n") (now (s .entry)) ⌝ }
+{
+    texts::starts_with(b"constraints\t1\n", s)
+}
+
+// The whole listing: where it is accepted, w holds it.
+pub fn load(s: &[u8], w: &mut [u32]) -> Loaded
+    requires { ⌜ 720 ≤ length (now w) ⌝ }
+    ensures { λ r. ⌜ LoadOutcome (now (s .entry)) r (now (w .exit)) ⌝ }
+{
+    if 24576 < s.len() {
+        return Loaded::Not(Fault::LongListing, 0);
+    }
+    if !has_first_line(s) {
+        return Loaded::Not(Fault::BadFirstLine, 1);
+    }
+    let table = bytes::classes();
+    fill(&table, s, w)
+}
+
+// ---- the work table around a call
+
+// The first n numbers become 0.
+pub fn zero_first(w: &mut [u32], n: usize)
+    requires { ⌜ n ≤ length (now w) ⌝ }
+    ensures { λ _. ⌜ now (w .exit) ≡ zeroed n (now (w .entry)) ⌝ }
+{
+    let mut i = 0;
+    while i < n {
+        w[i] = 0;
+        i += 1;
+    }
+}
+
+// What is handed back of a reading, on its side.
+pub fn report(side: u32, l: Loaded) -> Report
+    ensures { λ r. ⌜ r ≡ reportOf side (readingShown l) ⌝ }
+{
+    match l {
+        Loaded::Whole(_) => Report {
+            number: 0,
+            side: 0,
+            line: 0,
+        },
+        Loaded::Not(f, n) => Report {
+            number: answers::number(f),
+            side: side,
+            line: n,
+        },
+    }
+}
+
+// Reads a listing with the first n numbers of w, which are 0 afterwards. The length is a parameter, so that no proof computes with it.
+pub fn read_with(s: &[u8], w: &mut [u32], n: usize) -> Report
+    requires { ⌜ (720 ≤ n) × (n ≤ length (now w)) ⌝ }
+    ensures handed { λ r. ⌜ r ≡ reportOf 1 (readingOf (now (s .entry))) ⌝ }
+    ensures work { λ _. ⌜ now (w .exit) ≡ zeroed n (now (w .entry)) ⌝ }
+{
+    let loaded = load(s, &mut w[..n]);
+    zero_first(w, n);
+    report(1, loaded)
+}
+
+pub const WORK: usize = 4096;
+
+// Reads a listing: accepted, or refused with a number, side 1 and a line. Numbers and sides as 01 has them.
+#[no_mangle]
+pub extern "C" fn budquarry_read(listing: &[u8], work: &mut [u32]) -> Report
+    ensures { λ r. ⌜ ReadOutcome (now (listing .entry)) (now (work .entry)) r (now (work .exit)) ⌝ }
+{
+    if work.len() < WORK {
+        return Report {
+            number: 1,
+            side: 0,
+            line: 0,
+        };
+    }
+    read_with(listing, work, WORK)
+}

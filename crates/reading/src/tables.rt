@@ -1,0 +1,330 @@
+// The lent work table: where each list of it stands, how one is searched, and how it grows. specs/Tables.antt says what it holds.
+ghost use mathlib.Core.Path.{_≡_};
+ghost use Prim.Native.Nat.{_+_, _-_, _*_, _≤_, _<_, _^_};
+ghost use lib.ListN.{length, set, getD};
+ghost use lib.Bits.{bitOr};
+ghost use mathlib.Core.Bool.{cond};
+ghost use Rattle.reading.specs.Sets.{withMember, withoutMember, lowest};
+ghost use Rattle.reading.specs.Tables.{indexOf, textAt, textsAt, region};
+ghost use Rattle.reading.specs.Tallies.{startTally, tallyAt, tallyRole, tallyConstraint, tallyAllowed, tallyCollection, tallyPattern, tallyLine, tallyMethod};
+use crate::records::Place;
+use crate::texts;
+
+pub const ROLES: usize = 0;
+
+pub const METHODS: usize = 32;
+
+pub const PATTERNS: usize = 64;
+
+pub const OWNERS: usize = 192;
+
+pub const PARENTS: usize = 320;
+
+pub const COVERS: usize = 448;
+
+pub const ALLOWS: usize = 580;
+
+pub const MARKS: usize = 650;
+
+// How much of each list is filled, and where the reader stands.
+pub struct Tally {
+    pub place: Place,
+    pub lines: usize,
+    pub declared: usize,
+    pub roles: usize,
+    pub methods: usize,
+    pub patterns: usize,
+    pub collections: usize,
+    pub constraints: usize,
+}
+
+pub fn wide(x: u32) -> usize
+    ensures { λ r. ⌜ r ≡ x ⌝ }
+{
+    x as usize
+}
+
+// The text that the number x names: its place times 256, and its length; none where it would run past the end.
+pub fn text_at(s: &[u8], x: u32) -> &[u8]
+    ensures { λ r. ⌜ now r ≡ textAt (now (s .entry)) x ⌝ }
+{
+    let from = wide(x / 256);
+    let n = wide(x % 256);
+    let to = from + n;
+    if to <= s.len() {
+        &s[from..to]
+    } else {
+        &s[0..0]
+    }
+}
+
+// The place of t among the n texts that the table names from `base` on, or n where it is none of them.
+pub fn index(s: &[u8], w: &[u32], base: usize, n: usize, t: &[u8]) -> usize
+    requires { ⌜ base + n ≤ length (now w) ⌝ }
+    ensures { λ r. ⌜ r ≡ indexOf (now (t .entry)) (textsAt (now (s .entry)) (region (now (w .entry)) base n)) ⌝ }
+{
+    let mut k = 0;
+    while k < n {
+        if texts::are_same(text_at(s, w[base + k]), t) {
+            return k;
+        }
+        k += 1;
+    }
+    k
+}
+
+// The number i becomes the name of the text of a listing from a up to e.
+pub fn put_text(w: &mut [u32], i: usize, a: usize, e: usize)
+    requires { ⌜ (i < length (now w)) × ((a ≤ e) × ((e ≤ 24576) × (e - a < 256))) ⌝ }
+    ensures { λ _. ⌜ now (w .exit) ≡ set (now (w .entry)) i (a * 256 + (e - a)) ⌝ }
+{
+    w[i] = (a * 256 + (e - a)) as u32;
+}
+
+// ---- sets of numbers below 32
+
+pub fn with_member(x: u32, i: usize) -> u32
+    requires { ⌜ i < 32 ⌝ }
+    ensures { λ r. ⌜ r ≡ withMember x i ⌝ }
+{
+    x | (1 << (i % 32) as u32)
+}
+
+pub fn without_member(x: u32, i: usize) -> u32
+    requires { ⌜ i < 32 ⌝ }
+    ensures { λ r. ⌜ r ≡ withoutMember x i ⌝ }
+{
+    x & !(1 << (i % 32) as u32)
+}
+
+// The set of the n lowest.
+pub fn lowest_of(n: usize) -> u32
+    requires { ⌜ n ≤ 32 ⌝ }
+    ensures { λ r. ⌜ r ≡ lowest n ⌝ }
+{
+    if n == 32 {
+        return 4294967295;
+    }
+    (1 << (n % 32) as u32) - 1
+}
+
+// ---- what a record writes
+
+// The constraint that n others stand before begins, with its mark, and allows no role yet.
+pub fn put_constraint(w: &mut [u32], n: usize, mark: u32)
+    requires { ⌜ (651 + n < length (now w)) × (n ≤ 64) ⌝ }
+    ensures { λ _. ⌜ now (w .exit) ≡ set (set (now (w .entry)) (581 + n) 0) (651 + n) mark ⌝ }
+{
+    w[ALLOWS + 1 + n] = 0;
+    w[MARKS + 1 + n] = mark;
+}
+
+// The pattern that n others stand before: its text, and the numbers of its collection and of its constraint.
+pub fn put_pattern(w: &mut [u32], n: usize, a: usize, e: usize, c: usize, k: usize)
+    requires { ⌜ (320 + n < length (now w)) × ((n ≤ 128) × ((c ≤ 128) × (k ≤ 64))) ⌝ }
+    requires { ⌜ (a ≤ e) × ((e ≤ 24576) × (e - a < 256)) ⌝ }
+    ensures { λ _. ⌜ now (w .exit) ≡ set (set (set (now (w .entry)) (64 + n) (a * 256 + (e - a))) (192 + n) c) (320 + n) k ⌝ }
+{
+    put_text(w, PATTERNS + n, a, e);
+    w[OWNERS + n] = c as u32;
+    w[PARENTS + n] = k as u32;
+}
+
+// Constraint c allows the roles of the set too.
+pub fn allow(w: &mut [u32], c: usize, roles: u32)
+    requires { ⌜ (650 + c < length (now w)) × (c ≤ 64) ⌝ }
+    ensures { λ _. ⌜ now (w .exit) ≡ set (set (now (w .entry)) (580 + c) (bitOr (getD (now (w .entry)) (580 + c) 0) roles)) (650 + c) 2 ⌝ }
+{
+    w[ALLOWS + c] = w[ALLOWS + c] | roles;
+    w[MARKS + c] = 2;
+}
+
+// Constraint c allows the first n roles too, which are the declared ones.
+pub fn allow_declared(w: &mut [u32], c: usize, n: usize)
+    requires { ⌜ (650 + c < length (now w)) × ((c ≤ 64) × (n ≤ 32)) ⌝ }
+    ensures { λ _. ⌜ now (w .exit) ≡ set (set (now (w .entry)) (580 + c) (bitOr (getD (now (w .entry)) (580 + c) 0) (lowest n))) (650 + c) 2 ⌝ }
+{
+    allow(w, c, lowest_of(n));
+}
+
+// Constraint c allows role i too.
+pub fn allow_role(w: &mut [u32], c: usize, i: usize)
+    requires { ⌜ (650 + c < length (now w)) × ((c ≤ 64) × (i < 32)) ⌝ }
+    ensures { λ _. ⌜ now (w .exit) ≡ set (set (now (w .entry)) (580 + c) (bitOr (getD (now (w .entry)) (580 + c) 0) (withMember 0 i))) (650 + c) 2 ⌝ }
+{
+    allow(w, c, with_member(0, i));
+}
+
+// Collection c covers method i too; where this is its first, only that.
+pub fn cover(w: &mut [u32], c: usize, fresh: bool, i: usize)
+    requires { ⌜ (448 + c < length (now w)) × ((c ≤ 128) × (i < 32)) ⌝ }
+    ensures { λ _. ⌜ now (w .exit) ≡ set (now (w .entry)) (448 + c) (withMember (cond fresh 0 (getD (now (w .entry)) (448 + c) 0)) i) ⌝ }
+{
+    if fresh {
+        w[COVERS + c] = with_member(0, i);
+    } else {
+        w[COVERS + c] = with_member(w[COVERS + c], i);
+    }
+}
+
+// Collection c does not cover method i.
+pub fn uncover(w: &mut [u32], c: usize, i: usize)
+    requires { ⌜ (448 + c < length (now w)) × ((c ≤ 128) × (i < 32)) ⌝ }
+    ensures { λ _. ⌜ now (w .exit) ≡ set (now (w .entry)) (448 + c) (withoutMember (getD (now (w .entry)) (448 + c) 0) i) ⌝ }
+{
+    w[COVERS + c] = without_member(w[COVERS + c], i);
+}
+
+// ---- the counts after each record
+
+impl Tally {
+    pub fn start() -> Tally
+        ensures { λ r. ⌜ r ≡ startTally ⌝ }
+    {
+        Tally {
+            place: Place::AfterFirst,
+            lines: 0,
+            declared: 0,
+            roles: 0,
+            methods: 0,
+            patterns: 0,
+            collections: 0,
+            constraints: 0,
+        }
+    }
+
+    // The reader at another place.
+    pub fn at(self, place: Place) -> Tally
+        ensures { λ r. ⌜ r ≡ tallyAt self place ⌝ }
+    {
+        Tally {
+            place: place,
+            lines: self.lines,
+            declared: self.declared,
+            roles: self.roles,
+            methods: self.methods,
+            patterns: self.patterns,
+            collections: self.collections,
+            constraints: self.constraints,
+        }
+    }
+
+    // A declared role more.
+    pub fn with_role(self) -> Tally
+        requires { ⌜ (self .declared < 1000) × (self .roles < 1000) ⌝ }
+        ensures { λ r. ⌜ r ≡ tallyRole self ⌝ }
+    {
+        Tally {
+            place: Place::AfterRole,
+            lines: self.lines,
+            declared: self.declared + 1,
+            roles: self.roles + 1,
+            methods: self.methods,
+            patterns: self.patterns,
+            collections: self.collections,
+            constraints: self.constraints,
+        }
+    }
+
+    // A constraint more.
+    pub fn with_constraint(self, place: Place) -> Tally
+        requires { ⌜ (self .constraints < 1000) ⌝ }
+        ensures { λ r. ⌜ r ≡ tallyConstraint self place ⌝ }
+    {
+        Tally {
+            place: place,
+            lines: self.lines,
+            declared: self.declared,
+            roles: self.roles,
+            methods: self.methods,
+            patterns: self.patterns,
+            collections: self.collections,
+            constraints: self.constraints + 1,
+        }
+    }
+
+    // A role more, not declared.
+    pub fn with_allowed(self) -> Tally
+        requires { ⌜ (self .roles < 1000) ⌝ }
+        ensures { λ r. ⌜ r ≡ tallyAllowed self ⌝ }
+    {
+        Tally {
+            place: Place::AfterAllow,
+            lines: self.lines,
+            declared: self.declared,
+            roles: self.roles + 1,
+            methods: self.methods,
+            patterns: self.patterns,
+            collections: self.collections,
+            constraints: self.constraints,
+        }
+    }
+
+    // A collection more.
+    pub fn with_collection(self) -> Tally
+        requires { ⌜ (self .collections < 1000) ⌝ }
+        ensures { λ r. ⌜ r ≡ tallyCollection self ⌝ }
+    {
+        Tally {
+            place: Place::AfterCollection,
+            lines: self.lines,
+            declared: self.declared,
+            roles: self.roles,
+            methods: self.methods,
+            patterns: self.patterns,
+            collections: self.collections + 1,
+            constraints: self.constraints,
+        }
+    }
+
+    // A pattern more.
+    pub fn with_pattern(self) -> Tally
+        requires { ⌜ (self .patterns < 1000) ⌝ }
+        ensures { λ r. ⌜ r ≡ tallyPattern self ⌝ }
+    {
+        Tally {
+            place: Place::AfterPattern,
+            lines: self.lines,
+            declared: self.declared,
+            roles: self.roles,
+            methods: self.methods,
+            patterns: self.patterns + 1,
+            collections: self.collections,
+            constraints: self.constraints,
+        }
+    }
+
+    // A `method` or `omit` line more.
+    pub fn with_line(self, place: Place) -> Tally
+        requires { ⌜ (self .lines < 1000) ⌝ }
+        ensures { λ r. ⌜ r ≡ tallyLine self place ⌝ }
+    {
+        Tally {
+            place: place,
+            lines: self.lines + 1,
+            declared: self.declared,
+            roles: self.roles,
+            methods: self.methods,
+            patterns: self.patterns,
+            collections: self.collections,
+            constraints: self.constraints,
+        }
+    }
+
+    // Such a line, and a method more.
+    pub fn with_method(self, place: Place) -> Tally
+        requires { ⌜ (self .lines < 1000) × (self .methods < 1000) ⌝ }
+        ensures { λ r. ⌜ r ≡ tallyMethod self place ⌝ }
+    {
+        Tally {
+            place: place,
+            lines: self.lines + 1,
+            declared: self.declared,
+            roles: self.roles,
+            methods: self.methods + 1,
+            patterns: self.patterns,
+            collections: self.collections,
+            constraints: self.constraints,
+        }
+    }
+}

@@ -1,0 +1,130 @@
+// Texts compared and scanned.
+ghost use mathlib.Core.Path.{_≡_};
+ghost use Prim.Native.Nat.{_+_};
+ghost use lib.ListN.{drop};
+ghost use Rattle.reading.specs.Texts.{same, has, all, startsWith, endsWith, part, bytes};
+ghost use Rattle.reading.specs.Bytes.{isText, isToken, classTable};
+ghost use Rattle.reading.specs.Lines.{toFieldEnd};
+use crate::bytes;
+
+// Whether t and u are the same bytes.
+pub fn are_same(t: &[u8], u: &[u8]) -> bool
+    ensures { λ r. ⌜ r ≡ same (now (t .entry)) (now (u .entry)) ⌝ }
+{
+    if t.len() != u.len() {
+        return false;
+    }
+    let mut i = 0;
+    while i < t.len() {
+        if t[i] != u[i] {
+            return false;
+        }
+        i += 1;
+    }
+    true
+}
+
+// Whether t has the byte b.
+pub fn has_byte(b: u8, t: &[u8]) -> bool
+    ensures { λ r. ⌜ r ≡ has b (now (t .entry)) ⌝ }
+{
+    let mut i = 0;
+    while i < t.len() {
+        if t[i] == b {
+            return true;
+        }
+        i += 1;
+    }
+    false
+}
+
+// Whether t starts with the prefix p.
+pub fn starts_with(p: &[u8], t: &[u8]) -> bool
+    ensures { λ r. ⌜ r ≡ startsWith (now (p .entry)) (now (t .entry)) ⌝ }
+{
+    if t.len() < p.len() {
+        return false;
+    }
+    let n = p.len();
+    are_same(p, &t[..n])
+}
+
+// Whether t ends with e.
+pub fn ends_with(e: &[u8], t: &[u8]) -> bool
+    ensures { λ r. ⌜ r ≡ endsWith (now (e .entry)) (now (t .entry)) ⌝ }
+{
+    if t.len() < e.len() {
+        return false;
+    }
+    let from = t.len() - e.len();
+    are_same(&t[from..], e)
+}
+
+// Whether every byte of t is a text byte.
+pub fn all_text(table: &[u8; 256], t: &[u8]) -> bool
+    requires { ⌜ now table ≡ classTable ⌝ }
+    ensures { λ r. ⌜ r ≡ all isText (now (t .entry)) ⌝ }
+{
+    let mut i = 0;
+    while i < t.len() {
+        if !bytes::is_text(table, t[i]) {
+            return false;
+        }
+        i += 1;
+    }
+    true
+}
+
+// Whether every byte of t is a token byte.
+pub fn all_token(table: &[u8; 256], t: &[u8]) -> bool
+    requires { ⌜ now table ≡ classTable ⌝ }
+    ensures { λ r. ⌜ r ≡ all isToken (now (t .entry)) ⌝ }
+{
+    let mut i = 0;
+    while i < t.len() {
+        if !bytes::is_token(table, t[i]) {
+            return false;
+        }
+        i += 1;
+    }
+    true
+}
+
+// A field's end: the next tab or byte 10, or the end of the text; and whether its bytes are all text bytes.
+pub struct Scanned {
+    pub end: usize,
+    pub clean: bool,
+}
+
+// The field of s that begins at `at`.
+pub fn scan(table: &[u8; 256], s: &[u8], at: usize) -> Scanned
+    requires { ⌜ now table ≡ classTable ⌝ }
+    ensures end { λ r. ⌜ r .end ≡ at + toFieldEnd (drop at (now (s .entry))) ⌝ }
+    ensures clean { λ r. ⌜ r .clean ≡ all isText (part at (r .end) (now (s .entry))) ⌝ }
+{
+    let mut clean = true;
+    let mut i = at;
+    while i < s.len() {
+        let b = s[i];
+        if !bytes::is_text(table, b) {
+            if b == 9 {
+                return Scanned {
+                    end: i,
+                    clean: clean,
+                };
+            }
+            if b == 10 {
+                return Scanned {
+                    end: i,
+                    clean: clean,
+                };
+            }
+            clean = false;
+        }
+        i += 1;
+    }
+    Scanned {
+        end: i,
+        clean: clean,
+    }
+}
