@@ -15,7 +15,16 @@ pub mod Cuts
 pub mod Walks
 pub mod Headers
 pub mod Loads
+pub mod Digits
+pub mod Numberings
+pub mod Indices
+pub mod Coverings
+pub mod Pictures
+pub mod Rulings
+pub mod Holdings
 pub mod Lineups
 pub mod Downward
 pub mod Exactly
 pub mod Unique
+pub mod Plainly
+pub mod Accepted

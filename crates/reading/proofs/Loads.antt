@@ -5,6 +5,7 @@ use mathlib.Core.Bool.{Bool, true, false, not, cond, _&&_}
 use mathlib.Core.List.{List, [], _∷_, _++_}
 use Prim.Native.Nat.{ℕ, _≤_, _<_}
 use native.Mathlib.Omega.{arith}
+use native.Mathlib.Decide.{decLe}
 use lib.ListN.{length, drop}
 use lib.Dec.{ltb}
 use borrow.Author.Tests.{lt-ltb, le-ltb, not-true, not-false}
@@ -73,6 +74,27 @@ load-filled s w r out h e n o = go out (o .answer) (o .fits)
             fits = t;
           };
         }
+
+-- ---- the records of an accepted text are sound
+pub accepted-sound : (s : Text) → readingOf s ≡ accepted → Sound (recordsOf s)
+accepted-sound s a = by-size (decLe (length s) 24576)
+  where
+    refused : (f : Fault) (n : ℕ) → refusal f n ≡ accepted → ⊥
+    refused f n e = let z : _≡_ {A = ℕ} 0 1 = cc in omega arith
+
+    by-filling : (F : Filling) → fillFrom startTables 2 (linesOf (drop 14 s)) ≡ F → answerOf F ≡ accepted → Sound (recordsIn (linesOf (drop 14 s)))
+    by-filling (filled T) e h = fill-sound (linesOf (drop 14 s)) T e
+    by-filling (unfilled f n) e h = absurd (refused f n h)
+
+    by-header : (b : Bool) → startsWith header s ≡ b → length s ≤ 24576 → Sound (recordsOf s)
+    by-header true e h = rw (records-behind s e) (by-filling _ refl (fill-reads (linesOf (drop 14 s)) ∙ sym (behind s h e) ∙ a))
+    by-header false e h = absurd (refused BadFirstLine 1 (sym (short s h ∙ header-missing s e) ∙ a))
+
+    by-size : Dec (length s ≤ 24576) → Sound (recordsOf s)
+    by-size (yes h) = by-header (startsWith header s) refl h
+    by-size (no h) =
+        let l : 24576 < length s = omega arith in
+        absurd (refused LongListing 0 (load-long s [] l .answer ∙ a))
 
 -- ---- what is handed back
 pub report-whole : (side : ℕ) (l : Loaded) (t : Tally) → l ≡ Whole t → record { number = 0; side = 0; line = 0 } ≡ reportOf side (readingShown l)

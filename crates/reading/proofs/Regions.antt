@@ -89,7 +89,7 @@ module _ (w : List ℕ) (a n : ℕ) where
       let k : n < length (drop a w) = rw (length-drop a w) (omega arith) in
       take-suc (drop a w) n 0 k ∙ rw (getD-drop a w n 0)
 
-  region-at : (i : ℕ) → i < n → getD (region w a n) i 0 ≡ getD w (a + i) 0
+  pub region-at : (i : ℕ) → i < n → getD (region w a n) i 0 ≡ getD w (a + i) 0
   unfolding region
   region-at i h = rw (getD-take, getD-drop)
 

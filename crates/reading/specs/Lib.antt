@@ -9,6 +9,7 @@
 --   Refusals  the rules that a listing can break, their numbers and their order: what reading answers
 --   Listings  what an accepted listing is: its roles, methods, constraints and collections
 --   Sets      sets of small numbers as the digits of a number
+--   Views     the same rule by rule, as the crates above ask for it
 --   Rules     the plain form of the refusals, for the theorem that ties it to Refusals
 --   Outcomes  what a call hands back, and what it leaves in the work table
 -- The last two are for the proofs alone, and no public statement rests on a reader's believing them:
@@ -24,6 +25,7 @@ pub mod Limits
 pub mod Refusals
 pub mod Listings
 pub mod Sets
+pub mod Views
 pub mod Rules
 pub mod Outcomes
 pub mod Tallies

@@ -7,3 +7,4 @@ pub mod records; // the records, and which may follow which
 pub mod tables; // the lent work table
 pub mod steps; // what one record does
 pub mod reader; // line by line over a listing
+pub mod held; // what the crates above ask of a listing that the table holds

@@ -44,6 +44,13 @@ pub fn wide(x: u32) -> usize
     x as usize
 }
 
+// A set of roles is 64 bits wide above this crate.
+pub fn wide_set(x: u32) -> u64
+    ensures { λ r. ⌜ r ≡ x ⌝ }
+{
+    x as u64
+}
+
 // The text that the number x names: its place times 256, and its length; none where it would run past the end.
 pub fn text_at(s: &[u8], x: u32) -> &[u8]
     ensures { λ r. ⌜ now r ≡ textAt (now (s .entry)) x ⌝ }

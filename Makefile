@@ -1,0 +1,50 @@
+# make            the archive and the test programs
+# make check      the project's own tests, without the prover's
+# make soak       the comparison with the second implementation on SOAK cases of a fresh seed
+# make bench      counted instructions and stack, as bench/RESULTS.md has them
+# make clean
+X86 = tools/x86
+WARN = -std=c11 -Wall -Wextra -Werror
+SEED ?= $(shell date +%s)
+SOAK ?= 3000000
+
+all: build/libbudquarry.a build/agree build/stack build/calls
+
+# The proved archive. rt proves before it builds.
+build/libbudquarry.a: $(wildcard crates/reading/src/*.rt crates/reading/specs/*.antt crates/reading/proofs/*.antt crates/reading/proofs/*/*/*.antt) crates.txt
+	mkdir -p build
+	rt staticlib reading >build/staticlib.log 2>&1 || { tail -n 20 build/staticlib.log; exit 1; }
+	cp target/staticlib/libreading.a $@
+
+build/second.o: second/second.c second/second.h
+	mkdir -p build
+	$(X86) cc $(WARN) -O2 -c $< -o $@
+build/yardstick.o: second/yardstick.c second/yardstick.h
+	mkdir -p build
+	$(X86) cc $(WARN) -O3 -c $< -o $@
+build/generate.o: second/generate.c second/generate.h
+	mkdir -p build
+	$(X86) cc $(WARN) -O2 -c $< -o $@
+
+build/agree: tests/agree.c include/budquarry.h build/second.o build/yardstick.o build/generate.o build/libbudquarry.a
+	$(X86) cc $(WARN) -O2 -static tests/agree.c build/second.o build/yardstick.o build/generate.o build/libbudquarry.a -o $@
+build/stack: bench/stack.c bench/full.h include/budquarry.h build/libbudquarry.a
+	$(X86) cc $(WARN) -O2 -static bench/stack.c build/libbudquarry.a -o $@
+build/calls: bench/calls.c bench/full.h include/budquarry.h build/yardstick.o build/libbudquarry.a
+	$(X86) cc $(WARN) -O2 -static bench/calls.c build/yardstick.o build/libbudquarry.a -o $@
+
+check: build/agree build/stack
+	$(X86) run build/agree 1 100000
+	$(X86) run build/agree $(SEED) 20000
+	$(X86) run build/stack
+
+soak: build/agree
+	$(X86) run build/agree $(SEED) $(SOAK)
+
+bench: build/calls build/stack
+	bench/run
+
+clean:
+	rm -rf build
+
+.PHONY: all check soak bench clean

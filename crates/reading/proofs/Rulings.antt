@@ -1,0 +1,195 @@
+-- Rule by rule, the tables of sound records say what the listing says.
+use mathlib.Core.Path.{_≡_, refl, sym, ap, ap₂, _∙_}
+use mathlib.Core.Bool.{Bool, true, false, not, cond, _&&_}
+use mathlib.Core.List.{List, [], _∷_, map, flatMap, map-id, map-map}
+use Prim.Native.Nat.{ℕ, zero, suc, _≤_, _<_}
+use native.Mathlib.Omega.{arith}
+use lib.ListN.{length, getD, length-map, List·getD-map}
+use lib.Dec.{eqb}
+use Rattle.reading.specs.Texts.{Text}
+use Rattle.reading.specs.Records.{Record}
+use Rattle.reading.specs.Listings.{Collected, Constrained, Listing, Rule, isEmpty, covers, closes, rulesInCollection, rulesInConstraint, rulesOf, listingIn}
+use Rattle.reading.specs.Views.{patternsOf, coverSet, admitSet, accessOf, coverAt, accessAt}
+use Rattle.reading.specs.Tables.{Tables, tablesOf}
+use Rattle.reading.specs.declared.held.Access.{Access}
+use Rattle.reading.specs.declared.held.Access.the-variants.{Open, Closed, ByRole}
+use Rattle.reading.proofs.Sound.{Sound}
+use Rattle.reading.proofs.Keeping.{kept}
+use Rattle.reading.proofs.Numberings.{flat-map, flat-flat, flat-same, numbers, numbers-length, numbers-bound, looked-up}
+use Rattle.reading.proofs.Pictures.{collectionsOf, patternsIn, markOf, pictured}
+
+-- what a constraint says, by its mark and the roles that it allows
+abbrev pub accessBy : ℕ → ℕ → Access
+accessBy mark allowed = cond (eqb mark 0) Open (cond (eqb mark 1) Closed (ByRole allowed))
+
+-- ---- the rules of a listing
+-- an image of the rules, by constraint and collection
+rules-map : {B : Type 0} (h : Rule → B) (l : Listing) → map h (rulesOf l)
+    ≡ flatMap (λ (k : Constrained). flatMap (λ (c : Collected).
+    map (λ (t : Text). h (record { text = t; collection = c; constraint = k })) (c .patterns)) (k .collections)) (l .constraints)
+unfolding rulesOf
+rules-map h l =
+    flat-map rulesInConstraint h (l .constraints)
+    ∙ flat-same _ _ (l .constraints) (λ k.
+    flat-map (rulesInCollection k) h (k .collections)
+    ∙ flat-same _ _ (k .collections) (λ c. map-map h (λ (t : Text). record { text = t; collection = c; constraint = k }) (c .patterns)))
+
+module _ (l : Listing) where
+  -- their texts
+  rules-text : patternsOf l ≡ flatMap (λ (c : Collected). c .patterns) (collectionsOf (l .constraints))
+  unfolding patternsOf
+  rules-text =
+      rules-map (λ (r : Rule). r .text) l
+      ∙ flat-same _ _ (l .constraints) (λ k. flat-same _ _ (k .collections) (λ c. map-id (c .patterns)))
+      ∙ sym (flat-flat (λ (k : Constrained). k .collections) (λ (c : Collected). c .patterns) (l .constraints))
+
+  -- what hangs on their collections
+  rules-collection : {B : Type 0} (h : Collected → B) →
+      map (λ (r : Rule). h (r .collection)) (rulesOf l) ≡ flatMap (λ (c : Collected). map (λ (t : Text). h c) (c .patterns)) (collectionsOf (l .constraints))
+  rules-collection h =
+      rules-map (λ (r : Rule). h (r .collection)) l
+      ∙ sym (flat-flat (λ (k : Constrained). k .collections) (λ (c : Collected). map (λ (t : Text). h c) (c .patterns)) (l .constraints))
+
+  -- and on their constraints
+  rules-constraint : {B : Type 0} (h : Constrained → B) →
+      map (λ (r : Rule). h (r .constraint)) (rulesOf l) ≡ flatMap (λ (k : Constrained). map (λ (t : Text). h k) (patternsIn k)) (l .constraints)
+  rules-constraint h =
+      rules-map (λ (r : Rule). h (r .constraint)) l
+      ∙ flat-same _ _ (l .constraints) (λ k. sym (flat-map (λ (c : Collected). c .patterns) (λ (t : Text). h k) (k .collections)))
+
+-- ---- numbers looked up
+-- at place k
+looked-at : {A : Type 0} (p : A → List Text) (g : A → ℕ) (xs : List A) (k : ℕ) →
+    getD (0 ∷ map g xs) (getD (numbers 1 (map p xs)) k 0) 0 ≡ getD (flatMap (λ (x : A). map (λ (t : Text). g x) (p x)) xs) k 0
+looked-at p g xs k =
+    sym (List·getD-map (λ (n : ℕ). getD (0 ∷ map g xs) n 0) (numbers 1 (map p xs)) k 0)
+    ∙ ap (λ (l : List ℕ). getD l k 0) (looked-up p g 0 xs)
+
+-- each number has its place
+bounded : {A : Type 0} (p : A → List Text) (g : A → ℕ) (xs : List A) (ns ys : List ℕ) (k : ℕ) → ns ≡ numbers 1 (map p xs) → ys ≡ map g xs → k < length ns →
+    (1 ≤ getD ns k 0) × (getD ns k 0 ≤ length ys)
+bounded p g xs ns ys k e f h =
+    let b = numbers-bound 1 (map p xs) k (rw e at h) in
+    rw (e, f) (b .0, omega (arith, b .1, length-map xs p, length-map xs g))
+
+-- two images and a third made of them
+both-at : {A : Type 0} (f g : A → ℕ) (h : A → Access) → ((x : A) → accessBy (f x) (g x) ≡ h x) → (xs : List A) (k : ℕ) →
+    accessBy (getD (map f xs) k 0) (getD (map g xs) k 0) ≡ getD (map h xs) k Open
+both-at f g h e [] k = refl
+both-at f g h e (x ∷ xs) zero = e x
+both-at f g h e (x ∷ xs) (suc k) = both-at f g h e xs k
+
+-- a constraint's mark and set say what it says
+access-by : (l : Listing) (k : Constrained) → accessBy (markOf k) (admitSet l k) ≡ accessOf l k
+unfolding accessOf closes
+access-by l k = go (k .isOpen) (isEmpty (k .allowed))
+  where
+    go : (a b : Bool) → accessBy (cond a 0 (cond b 1 2)) (admitSet l k) ≡ cond a Open (cond (not a && b) Closed (ByRole (admitSet l k)))
+    go true b = refl
+    go false true = refl
+    go false false = refl
+
+-- ---- all of it
+pub record Pictures (T : Tables) (l : Listing) : Type 0 where
+  pub roles : T .roles ≡ l .roles
+  pub methods : T .methods ≡ l .methods
+  pub patterns : T .patterns ≡ patternsOf l
+  -- for each pattern the number of its collection and of its constraint, from 1
+  pub owners : length (T .owners) ≡ length (patternsOf l)
+  pub parents : length (T .parents) ≡ length (patternsOf l)
+  pub owner : (k : ℕ) → k < length (patternsOf l) → (1 ≤ getD (T .owners) k 0) × (getD (T .owners) k 0 ≤ length (T .covers))
+  pub parent : (k : ℕ) → k < length (patternsOf l) → (1 ≤ getD (T .parents) k 0) × (getD (T .parents) k 0 ≤ length (T .marks))
+  pub cover : (k : ℕ) → getD (0 ∷ T .covers) (getD (T .owners) k 0) 0 ≡ coverAt l k
+  pub access : (k : ℕ) → accessBy (getD (0 ∷ T .marks) (getD (T .parents) k 0) 0) (getD (0 ∷ T .allows) (getD (T .parents) k 0) 0) ≡ accessAt l k
+
+module _ (rs : List Record) (s : Sound rs) where
+  -- ---- the lists of the tables, by the listing
+  listed-covers : tablesOf rs .covers ≡ map (coverSet (listingIn rs)) (collectionsOf (listingIn rs .constraints))
+  unfolding listingIn coverSet
+  listed-covers = pictured rs s .covers
+
+  listed-allows : tablesOf rs .allows ≡ map (admitSet (listingIn rs)) (listingIn rs .constraints)
+  unfolding listingIn admitSet
+  listed-allows = pictured rs s .allows
+
+  listed-marks : tablesOf rs .marks ≡ map markOf (listingIn rs .constraints)
+  unfolding listingIn
+  listed-marks = pictured rs s .marks
+
+  listed-patterns : tablesOf rs .patterns ≡ patternsOf (listingIn rs)
+  unfolding listingIn
+  listed-patterns = pictured rs s .patterns ∙ sym (rules-text (listingIn rs))
+
+  listed-owners : tablesOf rs .owners ≡ numbers 1 (map (λ (c : Collected). c .patterns) (collectionsOf (listingIn rs .constraints)))
+  unfolding listingIn
+  listed-owners = pictured rs s .owners
+
+  listed-parents : tablesOf rs .parents ≡ numbers 1 (map patternsIn (listingIn rs .constraints))
+  unfolding listingIn
+  listed-parents = pictured rs s .parents
+
+  listed-roles : tablesOf rs .roles ≡ listingIn rs .roles
+  unfolding listingIn
+  listed-roles = kept rs s .roles
+
+  listed-methods : tablesOf rs .methods ≡ listingIn rs .methods
+  unfolding listingIn
+  listed-methods = kept rs s .methods
+
+  -- ---- what they say
+  owner-count : length (tablesOf rs .owners) ≡ length (patternsOf (listingIn rs))
+  owner-count =
+      rw listed-owners
+      (numbers-length (λ (c : Collected). c .patterns) 1 (collectionsOf (listingIn rs .constraints)) ∙ ap length (sym (rules-text (listingIn rs))))
+
+  parent-count : length (tablesOf rs .parents) ≡ length (patternsOf (listingIn rs))
+  parent-count =
+      rw listed-parents
+      (numbers-length patternsIn 1 (listingIn rs .constraints)
+      ∙ ap length (sym (rules-text (listingIn rs) ∙ flat-flat (λ (k : Constrained). k .collections) (λ (c : Collected). c .patterns) (listingIn rs .constraints))))
+
+  owner-bound : (k : ℕ) → k < length (patternsOf (listingIn rs)) →
+      (1 ≤ getD (tablesOf rs .owners) k 0) × (getD (tablesOf rs .owners) k 0 ≤ length (tablesOf rs .covers))
+  owner-bound k h = bounded (λ (c : Collected). c .patterns) (coverSet (listingIn rs)) (collectionsOf (listingIn rs .constraints))
+      (tablesOf rs .owners) (tablesOf rs .covers) k listed-owners listed-covers (omega (arith, owner-count))
+
+  parent-bound : (k : ℕ) → k < length (patternsOf (listingIn rs)) →
+      (1 ≤ getD (tablesOf rs .parents) k 0) × (getD (tablesOf rs .parents) k 0 ≤ length (tablesOf rs .marks))
+  parent-bound k h =
+      bounded patternsIn markOf (listingIn rs .constraints) (tablesOf rs .parents) (tablesOf rs .marks) k listed-parents listed-marks (omega (arith, parent-count))
+
+  cover-at : (k : ℕ) → getD (0 ∷ tablesOf rs .covers) (getD (tablesOf rs .owners) k 0) 0 ≡ coverAt (listingIn rs) k
+  unfolding coverAt
+  cover-at k =
+      rw (listed-covers, listed-owners)
+      (looked-at (λ (c : Collected). c .patterns) (coverSet (listingIn rs)) (collectionsOf (listingIn rs .constraints)) k
+      ∙ ap (λ (xs : List ℕ). getD xs k 0) (sym (rules-collection (listingIn rs) (coverSet (listingIn rs)))))
+
+  access-at : (k : ℕ) →
+      accessBy (getD (0 ∷ tablesOf rs .marks) (getD (tablesOf rs .parents) k 0) 0) (getD (0 ∷ tablesOf rs .allows) (getD (tablesOf rs .parents) k 0) 0)
+      ≡ accessAt (listingIn rs) k
+  unfolding accessAt
+  access-at k =
+      ap₂ accessBy (on-constraints markOf (tablesOf rs .marks) listed-marks) (on-constraints (admitSet (listingIn rs)) (tablesOf rs .allows) listed-allows)
+      ∙ both-at (λ (r : Rule). markOf (r .constraint)) (λ (r : Rule). admitSet (listingIn rs) (r .constraint))
+      (λ (r : Rule). accessOf (listingIn rs) (r .constraint))
+      (λ r. access-by (listingIn rs) (r .constraint)) (rulesOf (listingIn rs)) k
+    where
+      on-constraints : (g : Constrained → ℕ) (xs : List ℕ) → xs ≡ map g (listingIn rs .constraints) →
+          getD (0 ∷ xs) (getD (tablesOf rs .parents) k 0) 0 ≡ getD (map (λ (r : Rule). g (r .constraint)) (rulesOf (listingIn rs))) k 0
+      on-constraints g xs e =
+          rw (e, listed-parents)
+          (looked-at patternsIn g (listingIn rs .constraints) k ∙ ap (λ (ys : List ℕ). getD ys k 0) (sym (rules-constraint (listingIn rs) g)))
+
+  pub pictures : Pictures (tablesOf rs) (listingIn rs)
+  pictures = record {
+    roles = listed-roles;
+    methods = listed-methods;
+    patterns = listed-patterns;
+    owners = owner-count;
+    parents = parent-count;
+    owner = owner-bound;
+    parent = parent-bound;
+    cover = cover-at;
+    access = access-at;
+  }

@@ -1,0 +1,40 @@
+-- What the crates above ask of an accepted listing, rule by rule: a rule is a `pattern` line with its collection and its constraint.
+use Prim.Native.Nat.{ℕ}
+use mathlib.Core.Bool.{Bool, true, false, cond, _&&_}
+use mathlib.Core.List.{List, [], _∷_, map}
+use lib.ListN.{length, getD}
+use lib.Dec.{ltb}
+use Rattle.reading.specs.Texts.{Text}
+use Rattle.reading.specs.Listings.{Collected, Constrained, Listing, Rule, covers, closes, admits, rulesOf}
+use Rattle.reading.specs.Sets.{setOf}
+use Rattle.reading.specs.declared.held.Access.{Access}
+use Rattle.reading.specs.declared.held.Access.the-variants.{Open, Closed, ByRole}
+
+-- the pattern texts, line by line
+unfoldable pub patternsOf : Listing → List Text
+unfolding rulesOf
+patternsOf l = map (λ (r : Rule). r .text) (rulesOf l)
+
+-- digit i: the collection covers method i of the listing; from the number of its methods on: it covers those that nothing names
+unfoldable pub coverSet : Listing → Collected → ℕ
+unfolding setOf covers
+coverSet l c = setOf 32 (λ i. covers c (getD (l .methods) i []))
+
+-- digit i: the constraint allows role i of the listing, by its name or by `*`
+unfoldable pub admitSet : Listing → Constrained → ℕ
+unfolding setOf admits
+admitSet l k = setOf 32 (λ i. ltb i (length (l .roles)) && admits (l .declared) k (getD (l .roles) i []))
+
+-- what the constraint says of those that it is taken for: `open`; `auth` without `allow`; or the roles that it allows
+unfoldable pub accessOf : Listing → Constrained → Access
+unfolding closes admitSet
+accessOf l k = cond (k .isOpen) Open (cond (closes k) Closed (ByRole (admitSet l k)))
+
+-- ---- at line k of the patterns
+unfoldable pub coverAt : Listing → ℕ → ℕ
+unfolding rulesOf coverSet
+coverAt l k = getD (map (λ (r : Rule). coverSet l (r .collection)) (rulesOf l)) k 0
+
+unfoldable pub accessAt : Listing → ℕ → Access
+unfolding rulesOf accessOf
+accessAt l k = getD (map (λ (r : Rule). accessOf l (r .constraint)) (rulesOf l)) k Open

@@ -1,0 +1,110 @@
+// What the crates above ask of an accepted listing that the work table holds. Their contracts speak of the listing alone: how
+// the table holds it is this crate's own affair.
+ghost use mathlib.Core.Path.{_≡_};
+ghost use Prim.Native.Nat.{_<_};
+ghost use mathlib.Core.List.{[]};
+ghost use lib.ListN.{length, getD};
+ghost use Rattle.reading.specs.Listings.{listingOf};
+ghost use Rattle.reading.specs.Tables.{Holds, indexOf};
+ghost use Rattle.reading.specs.Views.{patternsOf, coverAt, accessAt};
+use crate::tables;
+use crate::tables::Tally;
+
+// What a constraint says: nothing is asked, nobody may, or the roles that may, as the digits of a number.
+pub enum Access {
+    Open,
+    Closed,
+    ByRole(u64),
+}
+
+// How many `pattern` lines the listing has.
+pub fn pattern_count(s: &[u8], w: &[u32], t: Tally) -> usize
+    requires { ⌜ Holds (now s) t (now w) ⌝ }
+    ensures { λ r. ⌜ r ≡ length (patternsOf (listingOf (now (s .entry)))) ⌝ }
+{
+    t.patterns
+}
+
+// The text of `pattern` line k.
+pub fn pattern<'a, 'b>(s: &'a [u8], w: &'b [u32], t: Tally, k: usize) -> &'a [u8]
+    requires { ⌜ Holds (now s) t (now w) × (k < length (patternsOf (listingOf (now s)))) ⌝ }
+    ensures { λ r. ⌜ now r ≡ getD (patternsOf (listingOf (now (s .entry)))) k [] ⌝ }
+{
+    tables::text_at(s, w[tables::PATTERNS + k])
+}
+
+// The methods that the collection of `pattern` line k covers, as the digits of a number.
+pub fn cover(s: &[u8], w: &[u32], t: Tally, k: usize) -> u32
+    requires { ⌜ Holds (now s) t (now w) × (k < length (patternsOf (listingOf (now s)))) ⌝ }
+    ensures { λ r. ⌜ r ≡ coverAt (listingOf (now (s .entry))) k ⌝ }
+{
+    let c = tables::wide(w[tables::OWNERS + k]);
+    w[tables::COVERS + c]
+}
+
+// What the constraint of `pattern` line k says.
+pub fn access_of(s: &[u8], w: &[u32], t: Tally, k: usize) -> Access
+    requires { ⌜ Holds (now s) t (now w) × (k < length (patternsOf (listingOf (now s)))) ⌝ }
+    ensures { λ r. ⌜ r ≡ accessAt (listingOf (now (s .entry))) k ⌝ }
+{
+    let c = tables::wide(w[tables::PARENTS + k]);
+    let mark = w[tables::MARKS + c];
+    if mark == 0 {
+        return Access::Open;
+    }
+    if mark == 1 {
+        return Access::Closed;
+    }
+    let roles = tables::wide_set(w[tables::ALLOWS + c]);
+    Access::ByRole(roles)
+}
+
+// How many roles the listing names.
+pub fn role_count(s: &[u8], w: &[u32], t: Tally) -> usize
+    requires { ⌜ Holds (now s) t (now w) ⌝ }
+    ensures { λ r. ⌜ r ≡ length (listingOf (now (s .entry)) .roles) ⌝ }
+{
+    t.roles
+}
+
+// Role i, by first appearance.
+pub fn role<'a, 'b>(s: &'a [u8], w: &'b [u32], t: Tally, i: usize) -> &'a [u8]
+    requires { ⌜ Holds (now s) t (now w) × (i < length (listingOf (now s) .roles)) ⌝ }
+    ensures { λ r. ⌜ now r ≡ getD (listingOf (now (s .entry)) .roles) i [] ⌝ }
+{
+    tables::text_at(s, w[tables::ROLES + i])
+}
+
+// The place of a name among the roles, or their number where it is none of them.
+pub fn role_index(s: &[u8], w: &[u32], t: Tally, name: &[u8]) -> usize
+    requires { ⌜ Holds (now s) t (now w) ⌝ }
+    ensures { λ r. ⌜ r ≡ indexOf (now (name .entry)) (listingOf (now (s .entry)) .roles) ⌝ }
+{
+    let n = t.roles;
+    tables::index(s, w, tables::ROLES, n, name)
+}
+
+// How many methods the listing names.
+pub fn method_count(s: &[u8], w: &[u32], t: Tally) -> usize
+    requires { ⌜ Holds (now s) t (now w) ⌝ }
+    ensures { λ r. ⌜ r ≡ length (listingOf (now (s .entry)) .methods) ⌝ }
+{
+    t.methods
+}
+
+// Method i, by first appearance.
+pub fn method<'a, 'b>(s: &'a [u8], w: &'b [u32], t: Tally, i: usize) -> &'a [u8]
+    requires { ⌜ Holds (now s) t (now w) × (i < length (listingOf (now s) .methods)) ⌝ }
+    ensures { λ r. ⌜ now r ≡ getD (listingOf (now (s .entry)) .methods) i [] ⌝ }
+{
+    tables::text_at(s, w[tables::METHODS + i])
+}
+
+// The place of a method among them, or their number where it is none of them.
+pub fn method_index(s: &[u8], w: &[u32], t: Tally, name: &[u8]) -> usize
+    requires { ⌜ Holds (now s) t (now w) ⌝ }
+    ensures { λ r. ⌜ r ≡ indexOf (now (name .entry)) (listingOf (now (s .entry)) .methods) ⌝ }
+{
+    let n = t.methods;
+    tables::index(s, w, tables::METHODS, n, name)
+}
