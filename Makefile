@@ -10,11 +10,12 @@ SOAK ?= 3000000
 
 all: build/libbudquarry.a build/agree build/stack build/calls
 
-# The proved archive. rt proves before it builds.
-build/libbudquarry.a: $(wildcard crates/reading/src/*.rt crates/reading/specs/*.antt crates/reading/proofs/*.antt crates/reading/proofs/*/*/*.antt) crates.txt
-	mkdir -p build
-	rt staticlib reading >build/staticlib.log 2>&1 || { tail -n 20 build/staticlib.log; exit 1; }
-	cp target/staticlib/libreading.a $@
+# The proved archive: the exported calls of each crate. rt proves before it builds.
+build/libbudquarry.a: $(shell find crates/reading crates/deciding -name '*.rt' -o -name '*.antt') crates.txt
+	mkdir -p build/objects
+	for crate in reading deciding; do rt staticlib $$crate >build/$$crate.log 2>&1 || { tail -n 20 build/$$crate.log; exit 1; }; done
+	cd build/objects && rm -f * && for crate in reading deciding; do ../../$(X86) ar x ../../target/staticlib/lib$$crate.a; done
+	rm -f $@ && $(X86) ar rcs $@ build/objects/*
 
 build/second.o: second/second.c second/second.h
 	mkdir -p build
@@ -26,8 +27,8 @@ build/generate.o: second/generate.c second/generate.h
 	mkdir -p build
 	$(X86) cc $(WARN) -O2 -c $< -o $@
 
-build/agree: tests/agree.c include/budquarry.h build/second.o build/yardstick.o build/generate.o build/libbudquarry.a
-	$(X86) cc $(WARN) -O2 -static tests/agree.c build/second.o build/yardstick.o build/generate.o build/libbudquarry.a -o $@
+build/agree: tests/agree.c include/budquarry.h build/second.o build/generate.o build/libbudquarry.a
+	$(X86) cc $(WARN) -O2 -static tests/agree.c build/second.o build/generate.o build/libbudquarry.a -o $@
 build/stack: bench/stack.c bench/full.h include/budquarry.h build/libbudquarry.a
 	$(X86) cc $(WARN) -O2 -static bench/stack.c build/libbudquarry.a -o $@
 build/calls: bench/calls.c bench/full.h include/budquarry.h build/yardstick.o build/libbudquarry.a

@@ -30,9 +30,19 @@ static int used(const char *name, void (*call)(void), size_t limit) {
     return sizeof area - i > limit;
 }
 
+static uint8_t path[1024], names[32 * 7 + 1];
+
 static void read_full(void) { budquarry_read(full_room, FULL, work, BUDQUARRY_WORK); }
+
+/* the longest path, and 32 names of roles that the listing has */
+static void decide_full(void) {
+    memset(path, 'x', sizeof path);
+    memcpy(path, "/p127/", 6);
+    for (int i = 0; i < 32; i++) sprintf((char *)names + 7 * i, "role%02d", i), names[7 * i + 6] = 10;
+    budquarry_decide(full_room, FULL, path, sizeof path, (const uint8_t *)"METHOD30", 8, 1, names, sizeof names - 1, work, BUDQUARRY_WORK);
+}
 
 int main(void) {
     if (!full_listing()) return 2;
-    return used("read", read_full, 8192);
+    return used("read", read_full, 8192) | used("decide", decide_full, 8192);
 }

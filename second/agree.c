@@ -27,9 +27,12 @@ struct tally {
     unsigned long cases, number[3][15], answer[6], no_wider, wider_none, wider_role;
 };
 
-/* A copy of exactly that length, so that a sanitizer sees the ends. */
-static void *copy(const void *from, size_t bytes)
+/* A copy of exactly that length, so that a sanitizer sees the ends; of no bytes
+ * sometimes a null pointer. */
+static void *copy(const void *from, size_t bytes, uint64_t garbage)
 {
+    if (bytes == 0 && (garbage & 1) != 0)
+        return NULL;
     uint8_t *p = malloc(bytes == 0 ? 1 : bytes);
     if (p == NULL)
         abort();
@@ -38,15 +41,20 @@ static void *copy(const void *from, size_t bytes)
     return p;
 }
 
+static int changed(const void *a, const void *b, size_t bytes)
+{
+    return bytes > 0 && memcmp(a, b, bytes) != 0;
+}
+
 static void run(int literal, const struct generated *g, struct outcome *r)
 {
-    uint8_t *listing = copy(g->listing, g->listing_len);
-    uint8_t *second = copy(g->new_listing, g->new_len);
-    uint8_t *path = copy(g->path, g->path_len);
-    uint8_t *method = copy(g->method, g->method_len);
-    uint8_t *roles = copy(g->roles, g->roles_len);
+    uint8_t *listing = copy(g->listing, g->listing_len, g->garbage);
+    uint8_t *second = copy(g->new_listing, g->new_len, g->garbage);
+    uint8_t *path = copy(g->path, g->path_len, g->garbage);
+    uint8_t *method = copy(g->method, g->method_len, g->garbage);
+    uint8_t *roles = copy(g->roles, g->roles_len, g->garbage);
     memset(r, 0, sizeof *r);
-    r->work = malloc(g->work_len * sizeof *r->work + 1);
+    r->work = malloc(g->work_len * sizeof *r->work + (g->work_len == 0));
     r->buffer = malloc(g->answer_len + (g->answer_len == 0));
     if (r->work == NULL || r->buffer == NULL)
         abort();
@@ -95,11 +103,9 @@ static void run(int literal, const struct generated *g, struct outcome *r)
         break;
     }
     /* what was only lent to be read mustn't change */
-    if (memcmp(listing, g->listing, g->listing_len) != 0 ||
-        memcmp(second, g->new_listing, g->new_len) != 0 ||
-        memcmp(path, g->path, g->path_len) != 0 ||
-        memcmp(method, g->method, g->method_len) != 0 ||
-        memcmp(roles, g->roles, g->roles_len) != 0) {
+    if (changed(listing, g->listing, g->listing_len) ||
+        changed(second, g->new_listing, g->new_len) || changed(path, g->path, g->path_len) ||
+        changed(method, g->method, g->method_len) || changed(roles, g->roles, g->roles_len)) {
         printf("an input changed\n");
         exit(1);
     }

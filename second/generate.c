@@ -1044,14 +1044,27 @@ static void make_cross(struct rng *r, unsigned prefixes, struct out *o)
     puts_(o, "end\n");
 }
 
+/* Names that are hard to tell apart: by number, by their last bytes, by their
+ * middle. */
+static void put_like(struct out *o, const char *record, unsigned style, unsigned number)
+{
+    static const char *const before[4] = { "Q", "longname", "longnameAB-", "longname-middle-" };
+    static const char *const behind[4] = { "", "", "-longtail", "tail" };
+    char s[64];
+    snprintf(s, sizeof s, style == 0 ? "%s%s%u%s\n" : "%s%s%02u%s\n", record, before[style],
+             number, behind[style]);
+    puts_(o, s);
+}
+
 /* Many methods or roles on both sides, in different orders. */
-static void make_many(struct rng *r, unsigned shift, struct out *o)
+static void make_many(struct rng *r, unsigned shift, unsigned style, struct out *o)
 {
     unsigned methods = 1 + below(r, 31), roles = 1 + below(r, 32), declared = below(r, roles + 1);
     unsigned step = 2 * below(r, 8) + 1, start = below(r, 64);
+    unsigned plain = chance(r, 75);
     puts_(o, "constraints\t1\n");
     for (unsigned i = 0; i < declared; i++)
-        putn(o, "role\tr", (start + i * step) % 64, "\n");
+        put_like(o, "role\t", style, (start + i * step) % 64);
     unsigned n = 1 + below(r, 4);
     for (unsigned c = 0; c < n; c++) {
         puts_(o, "constraint\tauth\n");
@@ -1060,16 +1073,42 @@ static void make_many(struct rng *r, unsigned shift, struct out *o)
         } else {
             for (unsigned i = 0; i < roles; i++)
                 if (chance(r, 90))
-                    putn(o, "allow\tr", (start + i * step) % 64, "\n");
+                    put_like(o, "allow\t", style, (start + i * step) % 64);
         }
         puts_(o, "collection\n");
-        putn(o, chance(r, 60) ? "pattern\t/a" : "pattern\t*.a", shift, "\n");
+        putn(o, chance(r, 60) ? "pattern\t/a" : "pattern\t*.a", plain ? 0 : shift, "\n");
         if (chance(r, 60))
             puts_(o, chance(r, 50) ? "pattern\t/*\n" : "pattern\t/\n");
         unsigned mode = below(r, 3), mstep = 2 * below(r, 8) + 1, mstart = below(r, 64);
         for (unsigned i = 0; mode != 0 && i < methods; i++)
             if (chance(r, 85))
-                putn(o, mode == 1 ? "method\tQ" : "omit\tQ", (mstart % 4 + i * mstep) % 31 + shift, "\n");
+                put_like(o, mode == 1 ? "method\t" : "omit\t", style,
+                         (mstart % 4 + i * mstep) % 31 + shift);
+    }
+    puts_(o, "end\n");
+}
+
+/* All 32 roles, which isn't the same as open; few methods. */
+static void make_all_roles(struct rng *r, struct out *o)
+{
+    static const char *const patterns[] = { "/", "/*", "/a/*", "*.a", "/a/x.a", "/a" };
+    unsigned few = chance(r, 20) ? below(r, 32) : 32;
+    puts_(o, "constraints\t1\n");
+    for (unsigned i = 0; i < few; i++)
+        put_like(o, "role\t", 0, i);
+    for (unsigned c = 1 + below(r, 4); c > 0; c--) {
+        unsigned k = below(r, 10);
+        puts_(o, k < 3 ? "constraint\topen\n" : "constraint\tauth\n");
+        if (k == 9)
+            for (unsigned i = 0; i < 31; i++)
+                put_like(o, "allow\t", 0, i);
+        else if (k > 3)
+            puts_(o, "allow\t*\n");
+        puts_(o, "collection\npattern\t");
+        puts_(o, patterns[below(r, COUNT(patterns))]);
+        puts_(o, "\n");
+        for (unsigned mode = below(r, 3), i = below(r, 3); mode != 0 && i > 0; i--)
+            putn(o, mode == 1 ? "method\tM" : "omit\tM", below(r, 4), "\n");
     }
     puts_(o, "end\n");
 }
@@ -1096,11 +1135,16 @@ void generate_case(uint64_t seed, struct generated *g)
             make_cross(r, 0, &n);
         } else if (k < 230) {
             uint64_t again = rng.state;
-            make_many(r, 0, &o);
+            unsigned style = chance(r, 60) ? 0 : below(r, 4);
+            make_many(r, 0, style, &o);
             if (chance(r, 40))
-                rng.state = again;
-            make_many(r, below(r, 4) == 0 ? below(r, 40) : 0, &n);
-        } else if (k < 330) {
+                rng.state = again, below(r, 100), below(r, 4);
+            make_many(r, below(r, 4) == 0 ? below(r, 40) : 0,
+                      chance(r, 90) ? style : below(r, 4), &n);
+        } else if (k < 260) {
+            make_all_roles(r, &o);
+            make_all_roles(r, &n);
+        } else if (k < 340) {
             make_filled(r, &t, &x);
             print_tree(&x, &o);
             if (chance(r, 50))
@@ -1108,7 +1152,7 @@ void generate_case(uint64_t seed, struct generated *g)
             else
                 make_filled(r, &t, &x);
             print_tree(&x, &n);
-        } else if (k < 350) {
+        } else if (k < 360) {
             unsigned which = below(r, LIMITS - 1);
             limit(which, chance(r, 30), below(r, 1000), &b);
             o.length = generate_big(&b, o.at, o.room);
@@ -1116,7 +1160,7 @@ void generate_case(uint64_t seed, struct generated *g)
                 limit(chance(r, 70) ? which : below(r, LIMITS - 1), chance(r, 30),
                       below(r, 1000), &b);
             n.length = generate_big(&b, n.at, n.room);
-        } else if (k < 351) {
+        } else if (k < 361) {
             limit(LIMITS - 1, 0, below(r, 1000), &b);
             o.length = generate_big(&b, o.at, o.room);
             if (chance(r, 50))
@@ -1155,7 +1199,7 @@ void generate_case(uint64_t seed, struct generated *g)
             b.shift = chance(r, 20) ? below(r, 10) : 0;
             o.length = generate_big(&b, o.at, o.room);
         } else if (k < 120) {
-            make_many(r, 0, &o);
+            make_many(r, 0, below(r, 4), &o);
         } else if (k < 140) {
             make_cross(r, below(r, 2), &o);
         } else {
@@ -1356,13 +1400,14 @@ enum {
     LIMIT_CASES = LIMITS * 2 * 8 * 2,
     BUFFER_CASES = 3 * 6 * 4,
     CALLER_CASES = 8 * 36,
+    LENGTH_PAIRS = 70 * 5 * 5 * 4,
     LENGTHS = 3 * 1100
 };
 
 size_t generate_small_count(void)
 {
     return (size_t)PAIRS_OF_RECORDS + BYTES_IN_FIELDS + BYTES_IN_REQUESTS + PAIRS_OF_PATTERNS +
-           PAIRS_OF_LISTINGS + LIMIT_CASES + BUFFER_CASES + CALLER_CASES + LENGTHS;
+           PAIRS_OF_LISTINGS + LIMIT_CASES + BUFFER_CASES + CALLER_CASES + LENGTH_PAIRS + LENGTHS;
 }
 
 static void fill_in(struct out *o, const char *text, unsigned byte)
@@ -1381,6 +1426,31 @@ static void put_ruled(struct out *o, size_t i)
     puts_(o, "\n");
     puts_(o, rule[1]);
     puts_(o, "end\n");
+}
+
+/* A pattern with a part of a length, and another below it. */
+static void put_lengthy(struct out *o, size_t kind, size_t length, const char *below_it,
+                        unsigned turned)
+{
+    static const char *const around[5][2] = {
+        { "*.X", "" }, { "/y.X", "" }, { "/X/y", "" }, { "/X", "/*" }, { "/X/y", "/*" }
+    };
+    /* new allows a and b on the pattern and nobody below it; old b and a */
+    puts_(o, "constraints\t1\nrole\ta\nconstraint\tauth\n");
+    puts_(o, turned ? "allow\ta\nallow\tb\n" : "allow\tb\n");
+    puts_(o, "collection\npattern\t");
+    for (const char *s = around[kind][0]; *s != 0; s++)
+        if (*s != 'X')
+            put1(o, (uint8_t)*s);
+        else
+            for (size_t k = 0; k < length; k++)
+                put1(o, 'a' + k % 26);
+    puts_(o, around[kind][1]);
+    puts_(o, "\nconstraint\tauth\n");
+    puts_(o, turned ? "" : "allow\ta\n");
+    puts_(o, "collection\npattern\t");
+    puts_(o, below_it);
+    puts_(o, "\nend\n");
 }
 
 void generate_small(size_t i, struct generated *g)
@@ -1497,6 +1567,18 @@ void generate_small(size_t i, struct generated *g)
         goto done;
     }
     i -= CALLER_CASES;
+    if (i < LENGTH_PAIRS) {
+        /* patterns with a part X of every length against each other, with a
+         * default or a prefix of all below them */
+        size_t length = i % 70, old_kind = i / 70 % 5, new_kind = i / 350 % 5;
+        unsigned below_them = (unsigned)(i / 1750);
+        g->kind = GENERATED_COMPARE;
+        g->answer_len = 1024;
+        put_lengthy(&o, old_kind, length, below_them & 1 ? "/*" : "/", 0);
+        put_lengthy(&n, new_kind, length, below_them & 2 ? "/*" : "/", 1);
+        goto done;
+    }
+    i -= LENGTH_PAIRS;
     {
         /* a path, a method or a name of every length */
         size_t length = i % 1100;

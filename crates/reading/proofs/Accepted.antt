@@ -183,6 +183,7 @@ module _ (rs : List Record) (f : Text) (a : Spoken rs) where
           → Each (Allows (methodsIn rs) (cond (cond b false true) (known (rolesIn rs) f) (rolesIn rs))) (onLast (addAllowed f) (constraintsIn rs))
       star true e = each-on-last _ (addAllowed f) (with-allowed (methodsIn rs) (rolesIn rs) f (rw e)) (constraintsIn rs) a
       star false e = each-on-last _ (addAllowed f) (with-allowed (methodsIn rs) (known (rolesIn rs) f) f (rw (e, known-has (rolesIn rs) f))) (constraintsIn rs) more-roles
+
       go : (k : Kind) → patternFits (recordWith k f) ≡ true
           → Each (Allows (cond (namesMethod (recordWith k f)) (known (methodsIn rs) f) (methodsIn rs)) (cond (namesRole (recordWith k f)) (known (rolesIn rs) f) (rolesIn rs))) (adds (constraintsIn rs) (recordWith k f))
       go Role h = more-roles
@@ -213,11 +214,14 @@ good-more rs k f a p = rw (methods-snoc rs (recordWith k f), roles-snoc rs (reco
   where
     method : isMethodName f ≡ true → Each (λ (m : Text). isMethodName m ≡ true) (known (methodsIn rs) f)
     method h = known-each (methodsIn rs) f (λ (m : Text). isMethodName m ≡ true) (a .0) h
+
     role : isRoleName f ≡ true → Each (λ (n : Text). isRoleName n ≡ true) (known (rolesIn rs) f)
     role h = known-each (rolesIn rs) f (λ (n : Text). isRoleName n ≡ true) (a .1) h
+
     star : (b : Bool) → isStar f ≡ b → isName f ≡ true → Each (λ (n : Text). isRoleName n ≡ true) (cond (cond b false true) (known (rolesIn rs) f) (rolesIn rs))
     star true e h = a .1
     star false e h = role (rw (h, e))
+
     go : (k : Kind) → nameFits (recordWith k f) ≡ true
         → Each (λ (m : Text). isMethodName m ≡ true) (cond (namesMethod (recordWith k f)) (known (methodsIn rs) f) (methodsIn rs))
         × Each (λ (n : Text). isRoleName n ≡ true) (cond (namesRole (recordWith k f)) (known (rolesIn rs) f) (rolesIn rs))

@@ -12,7 +12,7 @@ use lib.ListN.{length, take, drop, getD, length-drop, take-append-drop, drop-of-
 use lib.Seq.{getD-drop, drop-cons, drop-drop, take-length, take-all}
 use lib.Dec.{eqb}
 use borrow.Author.Tests.{eq-eqb, ne-eqb, eqb-true}
-use Rattle.reading.specs.Texts.{Text, tab, newline, part, all}
+use Rattle.reading.specs.Texts.{Text, tab, newline, part}
 use Rattle.reading.specs.Lines.{Line, before, linesOf, inFirst, fieldsOf, toFieldEnd}
 use Rattle.reading.specs.declared.records.Named.{Named}
 use Rattle.reading.specs.declared.reader.Cursor.{Cursor}
@@ -24,11 +24,11 @@ use Rattle.reading.specs.Records.{Record, alone, withField, recordNamed,
 use Rattle.reading.proofs.Truths.{never, or-left, or-right}
 
 -- neither a tab nor a byte 10
-abbrev stops : ℕ → Bool
+abbrev pub stops : ℕ → Bool
 stops x = eqb x tab || eqb x newline
 
 -- a field: no byte of it stops it
-data Field : Text → Type 0 where
+pub data Field : Text → Type 0 where
   none-left : Field []
   one-more : {x : ℕ} {xs : Text} → stops x ≡ false → Field xs → Field (x ∷ xs)
 
@@ -147,7 +147,7 @@ module _ (s : Text) (at p : ℕ) (q : p ≡ at + toFieldEnd (drop at s)) where
   pub field-from : at ≤ p
   field-from = omega arith
 
-  field-cut : Field (part at p s)
+  pub field-cut : Field (part at p s)
   field-cut = rw (q, add-sub-cancel-left) (field-taken (drop at s))
 
   field-then : drop at s ≡ part at p s ++ drop p s
@@ -166,10 +166,10 @@ module _ (s : Text) (at p : ℕ) (q : p ≡ at + toFieldEnd (drop at s)) where
       go true e k = eqb-true (getD s p 0) tab e
       go false e k = absurd (never false (rw e at k) refl)
 
-  field-newline : p < length s → getD s p 0 ≡ 10 → drop at s ≡ part at p s ++ newline ∷ drop (p + 1) s
+  pub field-newline : p < length s → getD s p 0 ≡ 10 → drop at s ≡ part at p s ++ newline ∷ drop (p + 1) s
   field-newline h e = field-then ∙ rw (drop-cons s p 0 h, e, add-one p)
 
-  field-tabbed : p < length s → (getD s p 0 ≡ 10 → ⊥) → drop at s ≡ part at p s ++ tab ∷ drop (p + 1) s
+  pub field-tabbed : p < length s → (getD s p 0 ≡ 10 → ⊥) → drop at s ≡ part at p s ++ tab ∷ drop (p + 1) s
   field-tabbed h n = field-then ∙ rw (drop-cons s p 0 h, field-tab-stop h n, add-one p)
 
   field-last : length s ≤ p → drop at s ≡ part at p s
@@ -191,10 +191,6 @@ module _ (s : Text) (at p : ℕ) (q : p ≡ at + toFieldEnd (drop at s)) where
 -- an empty part
 pub part-none : (s : Text) (p : ℕ) → part p p s ≡ []
 part-none s p = let z : p - p ≡ 0 = omega arith in rw z
-
-pub none-all : (f : ℕ → Bool) (s : Text) (p : ℕ) → true ≡ all f (part p p s)
-unfolding all
-none-all f s p = rw (part-none s p)
 
 -- ---- the line at a place of the text, with a tab behind its first field
 module _ (s : Text) (at p e : ℕ) (q : p ≡ at + toFieldEnd (drop at s)) (h : p < length s) (n : getD s p 0 ≡ 10 → ⊥) (k : e ≡ p + 1 + toFieldEnd (drop (p + 1) s)) (T : Tables) where

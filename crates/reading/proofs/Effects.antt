@@ -15,7 +15,7 @@ use Rattle.reading.specs.Bytes.{isText, isToken, between}
 use Rattle.reading.specs.Records.{isStar, mayFollow}
 use Rattle.reading.specs.Names.{madeOf, isName, isRoleName, isMethodName, isPattern, isConstraintKind}
 use Rattle.reading.specs.Sets.{withMember, withoutMember, lowest}
-use Rattle.reading.specs.Tables.{Tables, Fits, Field, StepOutcome, Steps, steppedBy, next, tablesAt, region, textsAt, indexOf, isFirstMethod, checkRole, checkConstraint, checkAllow, checkCollection, checkPattern, checkMethod, addRole, addConstraint, addAllow, addCollection, addPattern, addMethod, addOmit, fieldCheck, fieldAdd, checkRecord, stepFrom, recordWith}
+use Rattle.reading.specs.Tables.{Tables, packed, Fits, Field, StepOutcome, Steps, steppedBy, next, tablesAt, region, textsAt, indexOf, isFirstMethod, checkRole, checkConstraint, checkAllow, checkCollection, checkPattern, checkMethod, addRole, addConstraint, addAllow, addCollection, addPattern, addMethod, addOmit, fieldCheck, fieldAdd, checkRecord, stepFrom, recordWith}
 use Rattle.reading.specs.Tallies.{tallyAt, tallyRole, tallyConstraint, tallyAllowed, tallyCollection, tallyPattern, tallyLine, tallyMethod}
 use Rattle.reading.specs.declared.answers.Fault.{Fault}
 use Rattle.reading.specs.declared.answers.Fault.the-variants.{WrongPlace, BadName, BadPattern, RoleTwice, PastMost}
@@ -52,22 +52,6 @@ module _ (s : Text) (a e : ℕ) (to : e ≤ length s) where
   pattern-short : (r : Bool) → r ≡ isPattern (part a e s) → not r ≡ false → e - a < 256
   unfolding isPattern
   pattern-short r q y = let h = part-short 255 (made-short isText 0 255 (part a e s) (and-left _ _ (sym q ∙ not-false r y))) in omega arith
-
--- ---- what `put_text` and `put_pattern` ask for
-module _ (s : Text) (t : Tally) (w : List ℕ) (a e : ℕ) (d : Field s t w a e) (b : Bool) (y : not b ≡ false) where
-  pub role-put : b ≡ isRoleName (part a e s) → t .roles < 32 → (0 + t .roles < length w) × ((a ≤ e) × ((e ≤ 24576) × (e - a < 256)))
-  role-put good h = omega (arith, role-name-short s a e (d .to) b good y)
-
-  pub allow-put : b ≡ isName (part a e s) → t .roles < 32 → (0 + t .roles < length w) × ((a ≤ e) × ((e ≤ 24576) × (e - a < 256)))
-  allow-put good h = omega (arith, name-short s a e (d .to) b good y)
-
-  pub method-put : b ≡ isMethodName (part a e s) → t .methods < 31 → (32 + t .methods < length w) × ((a ≤ e) × ((e ≤ 24576) × (e - a < 256)))
-  method-put good h = omega (arith, method-name-short s a e (d .to) b good y)
-
-  pub pattern-put : b ≡ isPattern (part a e s) → t .patterns < 128
-      → ((320 + t .patterns < length w) × ((t .patterns ≤ 128) × ((t .collections ≤ 128) × (t .constraints ≤ 64))))
-      × ((a ≤ e) × ((e ≤ 24576) × (e - a < 256)))
-  pattern-put good h = omega (arith, pattern-short s a e (d .to) b good y)
 
 -- ---- writes keep what fits
 kept : {s : Text} {t : Tally} {left : List ℕ} (w : List ℕ) → length left ≡ length w → Fits s t w → Fits s t left
@@ -137,7 +121,7 @@ module _ (s : Text) (t : Tally) (w : List ℕ) (a e : ℕ) (d : Field s t w a e)
       role-past left k h =
           refused checkRole addRole s t w a e left PastMost (rw (← good, y, G.count-roles s t w (d .fits), ← q, le-ltb _ _ k, le-leb _ _ h))
 
-      pub role-next : (r : Tally) (left : List ℕ) → left ≡ set w (0 + t .roles) (a * 256 + (e - a)) → r ≡ tallyRole t
+      pub role-next : (r : Tally) (left : List ℕ) → left ≡ set w (0 + t .roles) (packed s a e) → r ≡ tallyRole t
           → t .roles ≤ i → t .roles < 32 → Steps checkRole addRole s t w a e (Next r) left
       unfolding tablesAt
       role-next r left l m k h =
@@ -175,7 +159,7 @@ module _ (s : Text) (t : Tally) (w : List ℕ) (a e : ℕ) (d : Field s t w a e)
             refused checkAllow addAllow s t w a e left PastMost
             (rw (← good, y, ← is, n, G.count-roles s t w (d .fits), ← q, le-ltb _ _ k, le-leb _ _ h))
 
-        pub allow-new : (r : Tally) (v left : List ℕ) → v ≡ set w (0 + t .roles) (a * 256 + (e - a))
+        pub allow-new : (r : Tally) (v left : List ℕ) → v ≡ set w (0 + t .roles) (packed s a e)
             → left ≡ set (set v (580 + t .constraints) (bitOr (getD v (580 + t .constraints) 0) (withMember 0 (t .roles)))) (650 + t .constraints) 2
             → r ≡ tallyAllowed t → t .roles ≤ i → t .roles < 32 → Steps checkAllow addAllow s t w a e (Next r) left
         unfolding tablesAt
@@ -194,7 +178,7 @@ module _ (s : Text) (t : Tally) (w : List ℕ) (a e : ℕ) (d : Field s t w a e)
     pattern-past left y h = refused checkPattern addPattern s t w a e left PastMost (rw (← good, y, G.count-patterns s t w (d .fits), le-leb _ _ h))
 
     pub pattern-next : (r : Tally) (left : List ℕ)
-        → left ≡ set (set (set w (64 + t .patterns) (a * 256 + (e - a))) (192 + t .patterns) (t .collections)) (320 + t .patterns) (t .constraints)
+        → left ≡ set (set (set w (64 + t .patterns) (packed s a e)) (192 + t .patterns) (t .collections)) (320 + t .patterns) (t .constraints)
         → r ≡ tallyPattern t → not b ≡ false → t .patterns < 128 → Steps checkPattern addPattern s t w a e (Next r) left
     pattern-next r left l m y h =
         rw l (taken checkPattern addPattern s t w a e _ r (tallyPattern t) (rw (← good, y, G.count-patterns s t w (d .fits), lt-leb _ _ h)) m
@@ -233,7 +217,7 @@ module _ (s : Text) (t : Tally) (w : List ℕ) (a e : ℕ) (d : Field s t w a e)
             rw l (taken checkMethod addMethod s t w a e _ r (tallyLine t AfterMethod) (known-room h) m
             (G.known-method-grown s t w (d .fits) (part a e s) i q fresh first g h) (kept w (simp length-set) (omega arith)))
 
-        pub method-new : (v : List ℕ) → v ≡ set w (32 + t .methods) (a * 256 + (e - a))
+        pub method-new : (v : List ℕ) → v ≡ set w (32 + t .methods) (packed s a e)
             → left ≡ set v (448 + t .collections) (withMember (cond fresh 0 (getD v (448 + t .collections) 0)) (t .methods))
             → r ≡ tallyMethod t AfterMethod → t .methods ≤ i → t .methods < 31 → Steps checkMethod addMethod s t w a e (Next r) left
         method-new v z l m k h =
@@ -248,7 +232,7 @@ module _ (s : Text) (t : Tally) (w : List ℕ) (a e : ℕ) (d : Field s t w a e)
             rw l (taken checkMethod addOmit s t w a e _ r (tallyLine t AfterOmit) (known-room h) m
             (G.known-omit-grown s t w (d .fits) (part a e s) i q g h) (kept w (simp length-set) (omega arith)))
 
-        pub omit-new : (v : List ℕ) → v ≡ set w (32 + t .methods) (a * 256 + (e - a))
+        pub omit-new : (v : List ℕ) → v ≡ set w (32 + t .methods) (packed s a e)
             → left ≡ set v (448 + t .collections) (withoutMember (getD v (448 + t .collections) 0) (t .methods))
             → r ≡ tallyMethod t AfterOmit → t .methods ≤ i → t .methods < 31 → Steps checkMethod addOmit s t w a e (Next r) left
         omit-new v z l m k h =

@@ -7,7 +7,7 @@ use native.Mathlib.Omega.{arith}
 use lib.ListN.{length, set, getD, length-set}
 use lib.Bits.{bitOr, or-zero-l}
 use Rattle.reading.specs.Texts.{Text, bytes, same, onLast, part}
-use Rattle.reading.specs.Tables.{Tables, Fits, tablesAt, region, textsAt, indexOf, indexed, isFirstMethod, addAllowTo, addMethodTo, addRole, addConstraint, addAllow, addCollection, addPattern, addMethod, addOmit}
+use Rattle.reading.specs.Tables.{Tables, Fits, packed, tablesAt, region, textsAt, indexOf, indexed, isFirstMethod, addAllowTo, addMethodTo, addRole, addConstraint, addAllow, addCollection, addPattern, addMethod, addOmit}
 use Rattle.reading.specs.Records.{isStar}
 use Rattle.reading.specs.Sets.{withMember, withoutMember, lowest}
 use Rattle.reading.specs.declared.records.Place.{Place}
@@ -185,10 +185,10 @@ module _ (s : Text) (t : Tally) (w : List ℕ) (f : Fits s t w) (j x : ℕ) wher
 -- ---- what the writes of each record make of the tables
 -- one more name, in the room for texts from `base` on
 named : (s : Text) (w : List ℕ) (base n a e : ℕ) → base + n < length w → a ≤ e → e ≤ length s → e - a < 256
-    → textsAt s (region (set w (base + n) (a * 256 + (e - a))) base (n + 1)) ≡ textsAt s (region w base n) ++ part a e s ∷ []
+    → textsAt s (region (set w (base + n) (packed s a e)) base (n + 1)) ≡ textsAt s (region w base n) ++ part a e s ∷ []
 named s w base n a e h l k m =
-    ap (textsAt s) (region-append w base n (a * 256 + (e - a)) h)
-    ∙ texts-append s (region w base n) (a * 256 + (e - a))
+    ap (textsAt s) (region-append w base n (packed s a e) h)
+    ∙ texts-append s (region w base n) (packed s a e)
     ∙ ap (λ (u : Text). textsAt s (region w base n) ++ u ∷ []) (text-part s a e l k m)
 
 module _ (s : Text) (t : Tally) (w : List ℕ) (f : Fits s t w) where
@@ -309,14 +309,14 @@ module _ (s : Text) (t : Tally) (w : List ℕ) (f : Fits s t w) where
 
 -- the same where the record's field, from a up to e, is a text that the table does not name yet
 module _ (s : Text) (t : Tally) (w : List ℕ) (f : Fits s t w) (a e : ℕ) (from : a ≤ e) (to : e ≤ length s) (short : e - a < 256) where
-  pub role-grown : t .roles < 32 → tablesAt s (tallyRole t) (set w (0 + t .roles) (a * 256 + (e - a))) ≡ addRole (tablesAt s t w) (part a e s)
+  pub role-grown : t .roles < 32 → tablesAt s (tallyRole t) (set w (0 + t .roles) (packed s a e)) ≡ addRole (tablesAt s t w) (part a e s)
   unfolding tablesAt
   role-grown h =
-      in-roles s (tallyRole t) w (omega arith) (0 + t .roles) (a * 256 + (e - a)) (omega arith)
+      in-roles s (tallyRole t) w (omega arith) (0 + t .roles) (packed s a e) (omega arith)
       ∙ ap (withRoles (tablesAt s (tallyRole t) w)) (named s w 0 (t .roles) a e (omega arith) from to short)
 
   pub new-role-grown : (i : ℕ) → isStar (part a e s) ≡ false → i ≡ indexOf (part a e s) (textsAt s (region w 0 (t .roles)))
-      → t .roles ≤ i → t .roles < 32 → (v : List ℕ) → v ≡ set w (0 + t .roles) (a * 256 + (e - a))
+      → t .roles ≤ i → t .roles < 32 → (v : List ℕ) → v ≡ set w (0 + t .roles) (packed s a e)
       → tablesAt s (tallyAllowed t)
       (set (set v (580 + t .constraints) (bitOr (getD v (580 + t .constraints) 0) (withMember 0 (t .roles)))) (650 + t .constraints) 2)
       ≡ addAllow (tablesAt s t w) (part a e s)
@@ -325,9 +325,9 @@ module _ (s : Text) (t : Tally) (w : List ℕ) (f : Fits s t w) (a e : ℕ) (fro
       let u = tallyAllowed t in
       let d : t .roles ≡ indexOf (part a e s) (tablesAt s t w .roles) = omega (arith, index-bound (part a e s) (tablesAt s t w .roles), count-roles s t w f) in
       let l : length (tablesAt s t w .roles) ≤ indexOf (part a e s) (tablesAt s t w .roles) = omega (arith, count-roles s t w f) in
-      let fv : Fits s u v = rw z (omega (arith, length-set w (0 + t .roles) (a * 256 + (e - a)))) in
+      let fv : Fits s u v = rw z (omega (arith, length-set w (0 + t .roles) (packed s a e))) in
       let r : tablesAt s u v ≡ withRoles (tablesAt s u w) (tablesAt s t w .roles ++ part a e s ∷ [])
-      = rw z (in-roles s u w (omega arith) (0 + t .roles) (a * 256 + (e - a)) (omega arith)
+      = rw z (in-roles s u w (omega arith) (0 + t .roles) (packed s a e) (omega arith)
       ∙ ap (withRoles (tablesAt s u w)) (named s w 0 (t .roles) a e (omega arith) from to short)) in
       allowed s u v fv (withMember 0 (t .roles))
       ∙ ap (λ (T : Tables). withMarks (withAllows T (onLast (λ x. bitOr x (withMember 0 (t .roles))) (T .allows))) (onLast (λ x. 2) (T .marks))) r
@@ -340,12 +340,12 @@ module _ (s : Text) (t : Tally) (w : List ℕ) (f : Fits s t w) (a e : ℕ) (fro
 
   pub pattern-grown : t .patterns < 128
       → tablesAt s (tallyPattern t)
-      (set (set (set w (64 + t .patterns) (a * 256 + (e - a))) (192 + t .patterns) (t .collections)) (320 + t .patterns) (t .constraints))
+      (set (set (set w (64 + t .patterns) (packed s a e)) (192 + t .patterns) (t .collections)) (320 + t .patterns) (t .constraints))
       ≡ addPattern (tablesAt s t w) (part a e s)
   unfolding tablesAt
   pattern-grown h =
       let n = t .patterns in
-      let x = a * 256 + (e - a) in
+      let x = packed s a e in
       let u = tallyPattern t in
       let v = set w (64 + n) x in
       let z = set v (192 + n) (t .collections) in
@@ -368,20 +368,20 @@ module _ (s : Text) (t : Tally) (w : List ℕ) (f : Fits s t w) (a e : ℕ) (fro
 
   -- a `method` or `omit` line with a new method
   new-line : (p : Place) (g : ℕ → ℕ) (i : ℕ) → t .lines < 512 → i ≡ indexOf (part a e s) (textsAt s (region w 32 (t .methods)))
-      → t .methods ≤ i → t .methods < 31 → (v : List ℕ) → v ≡ set w (32 + t .methods) (a * 256 + (e - a))
+      → t .methods ≤ i → t .methods < 31 → (v : List ℕ) → v ≡ set w (32 + t .methods) (packed s a e)
       → tablesAt s (tallyMethod t p) (set v (448 + t .collections) (g (getD v (448 + t .collections) 0))) ≡ lined (tablesAt s t w) (part a e s) p g
   unfolding tablesAt
   new-line p g i b q k h v z =
       let u = tallyMethod t p in
       let l : length (tablesAt s t w .methods) ≤ indexOf (part a e s) (tablesAt s t w .methods) = omega (arith, count-methods s t w f) in
-      let fv : Fits s u v = rw z (omega (arith, length-set w (32 + t .methods) (a * 256 + (e - a)))) in
+      let fv : Fits s u v = rw z (omega (arith, length-set w (32 + t .methods) (packed s a e))) in
       let r : tablesAt s u v ≡ withMethods (tablesAt s u w) (tablesAt s t w .methods ++ part a e s ∷ [])
-      = rw z (in-methods s u w (omega arith) (32 + t .methods) (a * 256 + (e - a)) (omega arith) (omega arith)
+      = rw z (in-methods s u w (omega arith) (32 + t .methods) (packed s a e) (omega arith) (omega arith)
       ∙ ap (withMethods (tablesAt s u w)) (named s w 32 (t .methods) a e (omega arith) from to short)) in
       covered s u v fv g ∙ ap (λ (T : Tables). withCovers T (onLast g (T .covers))) r ∙ rw (indexed-new (part a e s) _ l)
 
   module _ (i : ℕ) (b : t .lines < 512) (q : i ≡ indexOf (part a e s) (textsAt s (region w 32 (t .methods)))) (k : t .methods ≤ i)
-      (h : t .methods < 31) (v : List ℕ) (z : v ≡ set w (32 + t .methods) (a * 256 + (e - a))) where
+      (h : t .methods < 31) (v : List ℕ) (z : v ≡ set w (32 + t .methods) (packed s a e)) where
     new-method : t .methods ≡ indexOf (part a e s) (textsAt s (region w 32 (t .methods)))
     unfolding tablesAt
     new-method = omega (arith, index-bound (part a e s) (tablesAt s t w .methods), count-methods s t w f)

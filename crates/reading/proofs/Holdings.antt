@@ -1,15 +1,15 @@
 -- What the crates above read off the work table: its numbers, and the texts that they name, are those of the listing that it holds.
-use mathlib.Core.Path.{_≡_, sym, ap, ap₂, _∙_}
+use mathlib.Core.Path.{_≡_, refl, sym, ap, ap₂, _∙_}
 use mathlib.Core.List.{List, [], _∷_}
 use Prim.Native.Nat.{ℕ, zero, suc, _+_, _*_, _^_, _≤_, _<_}
 use native.Mathlib.Omega.{arith}
 use lib.ListN.{length, getD, List·getD-map}
-use lib.Dec.{T, leb, leb→le, leb·zero}
+use lib.Dec.{T, leb, leb→le}
 use borrow.Author.Tests.{ne-eqb}
 use Rattle.reading.specs.Texts.{Text}
 use Rattle.reading.specs.Listings.{listingOf, recordsOf}
 use Rattle.reading.specs.Views.{patternsOf, coverAt, accessAt}
-use Rattle.reading.specs.Tables.{Holds, indexOf, region, textAt, textsAt, tablesAt}
+use Rattle.reading.specs.Tables.{Holds, indexOf, region, textAt, stamped, textsAt, tablesAt}
 use Rattle.reading.specs.declared.tables.Tally.{Tally}
 use Rattle.reading.specs.declared.held.Access.the-variants.{Open, Closed, ByRole}
 use Rattle.reading.proofs.Regions.{region-length, region-at, texts-length}
@@ -18,8 +18,8 @@ use Rattle.reading.proofs.Rulings.{accessBy, Pictures, pictures}
 
 -- no text
 text-none : (s : Text) → textAt s 0 ≡ []
-unfolding textAt
-text-none s = rw (leb·zero (length s))
+unfolding textAt stamped
+text-none s = refl
 
 -- the text that a number of a region names
 named-text : (s : Text) (w : List ℕ) (a n : ℕ) (us : List Text) (k : ℕ) → textsAt s (region w a n) ≡ us → k < n → textAt s (getD w (a + k) 0) ≡ getD us k []

@@ -13,6 +13,7 @@ pub mod Keeping
 pub mod Filling
 pub mod Cuts
 pub mod Walks
+pub mod Lineheads
 pub mod Headers
 pub mod Loads
 pub mod Digits

@@ -145,13 +145,3 @@ is-permitted t z e = e ∙ sym (permitted t)
 -- what is behind `*.`, as it is lent
 pub extension-behind : (t : Text) (r : Bool) → r ≡ isExtension (part 2 (length t) t) → r ≡ isExtension (drop 2 t)
 extension-behind t r e = e ∙ ap isExtension (from-on 2 t)
-
--- ---- the names of records
--- a name that is none of the first five is told by the sixth
-pub last-name : (n : Text) (z : Named) (a b c d e : Bool)
-    → a ≡ same n (bytes "method") → a ≡ false → b ≡ same n (bytes "omit") → b ≡ false → c ≡ same n (bytes "pattern") → c ≡ false
-    → d ≡ same n (bytes "allow") → d ≡ false → e ≡ same n (bytes "role") → e ≡ false
-    → z ≡ cond (same n (bytes "constraint")) (Known Constraint) Unknown → z ≡ withField n
-unfolding withField
-last-name n z a b c d e p f q g r h s i t j k =
-    rw (sym p ∙ f, sym q ∙ g, sym r ∙ h, sym s ∙ i, sym t ∙ j) k

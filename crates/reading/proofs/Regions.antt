@@ -10,29 +10,94 @@ use native.Mathlib.Decide.{decLt}
 use lib.ListN.{length, take, drop, getD, set, length-take, length-drop, length-map, drop-of-length-le, List·getD-map}
 use lib.Seq.{take-set-le, drop-set-lt, drop-set-add, take-suc, take-suc-set, getD-take, getD-drop, drop-cons}
 use lib.Arith.{digits-div, digits-mod}
-use borrow.Author.Tests.{lt-ltb, le-ltb, le-leb, lt-leb}
+use borrow.Author.Tests.{lt-ltb, le-ltb, eq-eqb, ne-eqb, eqb-true}
+use lib.Dec.{eqb}
 use Rattle.reading.specs.Texts.{Text, same, onLast, part}
-use Rattle.reading.specs.Tables.{region, textAt, textsAt, indexOf, indexed}
+use Rattle.reading.specs.Tables.{region, stampOf, packed, stamped, textAt, textsAt, indexOf, indexed}
+use Rattle.reading.proofs.Truths.{not-so}
+use Rattle.reading.proofs.Spans.{same-equal}
+
+-- ---- stamps
+-- the empty text's
+pub stamp-none : (t : Text) → length t ≡ 0 → 0 ≡ stampOf t
+unfolding stampOf
+stamp-none [] h = refl
+stamp-none (x ∷ xs) h = absurd (omega arith)
+
+-- another text's
+pub stamp-last : (t : Text) (x : ℕ) → x ≡ getD t (length t - 1) 0 → x % 256 * 256 + length t % 256 ≡ stampOf t
+unfolding stampOf
+stamp-last t x e = rw e
+
+-- 16 digits
+stamp-small : (t : Text) → stampOf t < 65536
+unfolding stampOf
+stamp-small t = omega arith
+
+-- the last eight of them are the length's
+stamp-length : (t : Text) → stampOf t % 256 ≡ length t % 256
+unfolding stampOf
+stamp-length t = omega arith
+
+-- a text that isn't empty is not what another stamp lets through
+stamped-differs : (u t : Text) (k : ℕ) → (k ≡ stampOf t → ⊥) → (length t ≡ 0 → ⊥) → stamped u k ≡ t → ⊥
+unfolding stamped
+stamped-differs u t k n m e = go (eqb (stampOf u) k) refl e
+  where
+    go : (b : Bool) → eqb (stampOf u) k ≡ b → cond b u [] ≡ t → ⊥
+    go true q z = n (sym (ap stampOf (sym z) ∙ eqb-true (stampOf u) k q))
+    go false q z = m (sym (ap length z))
+
+pub stamp-differs : (s : Text) (x : ℕ) (t : Text) (key : ℕ) → key ≡ stampOf t → (x % 65536 ≡ key → ⊥) → (length t ≡ 0 → ⊥) → false ≡ same (textAt s x) t
+unfolding textAt
+stamp-differs s x t key e n m =
+    let u : Text = take (x % 256) (drop (x / 65536) s) in
+    sym (not-so _ (λ q. stamped-differs u t (x % 65536) (λ z. n (z ∙ sym e)) m (same-equal _ _ q)))
 
 -- ---- a number's text, as the code takes it out
-pub text-in : (s : Text) (x f n : ℕ) → f ≡ x / 256 → n ≡ x % 256 → f + n ≤ length s → take (f + n - f) (drop f s) ≡ textAt s x
-unfolding textAt
-text-in s x f n p q h =
-    let k : x / 256 + x % 256 ≤ length s = omega arith in
-    rw (le-leb _ _ k, p, q, add-sub-cancel-left)
+module _ (s : Text) (x f n : ℕ) (p : f ≡ x / 65536) (q : n ≡ x % 256) where
+  there : take (f + n - f) (drop f s) ≡ take (x % 256) (drop (x / 65536) s)
+  there = rw (add-sub-cancel-left, p, q)
 
-pub text-out : (s : Text) (x f n : ℕ) → f ≡ x / 256 → n ≡ x % 256 → length s < f + n → [] ≡ textAt s x
-unfolding textAt
-text-out s x f n p q h =
-    let k : length s < x / 256 + x % 256 = omega arith in
-    rw (lt-leb _ _ k)
+  pub text-in : (k : ℕ) → k ≡ stampOf (part f (f + n) s) → k ≡ x % 65536 → part f (f + n) s ≡ textAt s x
+  unfolding textAt stamped
+  text-in k e h = there ∙ sym (rw (eq-eqb _ _ (ap stampOf (sym there) ∙ sym e ∙ h)))
+
+  pub text-other : (k : ℕ) → k ≡ stampOf (part f (f + n) s) → (k ≡ x % 65536 → ⊥) → [] ≡ textAt s x
+  unfolding textAt stamped
+  text-other k e h = sym (rw (ne-eqb _ _ (λ z. h (e ∙ ap stampOf there ∙ z))))
+
+  -- what would run past the end is shorter than the number says, or empty
+  pub text-out : length s < f + n → [] ≡ textAt s x
+  unfolding textAt stamped
+  text-out h = go (x % 256) refl
+    where
+      u : Text
+      u = take (x % 256) (drop (x / 65536) s)
+
+      either : (b : Bool) → _≡_ {A = Text} [] (cond b [] [])
+      either true = refl
+      either false = refl
+
+      go : (m : ℕ) → x % 256 ≡ m → [] ≡ cond (eqb (stampOf u) (x % 65536)) u []
+      go zero z = rw z (either (eqb (stampOf []) (x % 65536)))
+      go (suc m) z =
+          let l : length u < x % 256 = simp (length-take, length-drop) (omega arith) in
+          let i : length u % 256 ≡ length u = omega arith in
+          let o : x % 65536 % 256 ≡ x % 256 = omega arith in
+          sym (rw (ne-eqb _ _ (λ k. let j : length u ≡ x % 256 = sym (sym (ap (λ (y : ℕ). y % 256) k ∙ o) ∙ stamp-length u ∙ i) in omega arith)))
 
 -- the number that names the text from a up to e
-pub text-part : (s : Text) (a e : ℕ) → a ≤ e → e ≤ length s → e - a < 256 → textAt s (a * 256 + (e - a)) ≡ part a e s
-unfolding textAt
+pub text-part : (s : Text) (a e : ℕ) → a ≤ e → e ≤ length s → e - a < 256 → textAt s (packed s a e) ≡ part a e s
+unfolding textAt stamped
 text-part s a e h k l =
-    let m : a + (e - a) ≤ length s = omega arith in
-    rw (digits-div a l, digits-mod a l, le-leb _ _ m)
+    let z : ℕ = stampOf (part a e s) in
+    let m : z < 65536 = stamp-small (part a e s) in
+    let o : z % 256 ≡ length (part a e s) % 256 = stamp-length (part a e s) in
+    let i : length (part a e s) ≡ e - a = simp (length-take, length-drop) (omega arith) in
+    let from : (a * 65536 + z) / 65536 ≡ a = digits-div a m in
+    let size : (a * 65536 + z) % 256 ≡ e - a = omega arith in
+    rw (from, size, digits-mod a m, eq-eqb z z refl)
 
 pub texts-append : (s : Text) (xs : List ℕ) (x : ℕ) → textsAt s (xs ++ x ∷ []) ≡ textsAt s xs ++ textAt s x ∷ []
 unfolding textsAt
@@ -120,15 +185,14 @@ module _ (s t : Text) (w : List ℕ) (a n k : ℕ) (room : a + n ≤ length w) w
       ∙ rw (add-one k, List·getD-map (textAt s) (region w a n) k 0, region-at w a n k h)
 
   module _ (v : indexOf t (textsAt s (region w a n)) ≡ k + indexOf t (drop k (textsAt s (region w a n)))) where
-    pub index-hit : (u : Text) (r : Bool) → k < n → u ≡ textAt s (getD w (a + k) 0) → r ≡ same u t → r ≡ true
-        → k ≡ indexOf t (textsAt s (region w a n))
+    pub index-hit : (r : Bool) → k < n → r ≡ same (textAt s (getD w (a + k) 0)) t → r ≡ true → k ≡ indexOf t (textsAt s (region w a n))
     unfolding indexOf
-    index-hit u r h e q y = sym (v ∙ rw (texts-next h, ← e, ← q, y) (add-zero k))
+    index-hit r h q y = sym (v ∙ rw (texts-next h, ← q, y) (add-zero k))
 
-    pub index-miss : (u : Text) (r : Bool) → k < n → u ≡ textAt s (getD w (a + k) 0) → r ≡ same u t → r ≡ false
+    pub index-miss : (r : Bool) → k < n → r ≡ same (textAt s (getD w (a + k) 0)) t → r ≡ false
         → indexOf t (textsAt s (region w a n)) ≡ k + 1 + indexOf t (drop (k + 1) (textsAt s (region w a n)))
     unfolding indexOf
-    index-miss u r h e q y = v ∙ rw (texts-next h, ← e, ← q, y) (omega arith)
+    index-miss r h q y = v ∙ rw (texts-next h, ← q, y) (omega arith)
 
     pub index-none : n ≤ k → k ≡ indexOf t (textsAt s (region w a n))
     unfolding indexOf

@@ -1,15 +1,15 @@
 -- The laws of texts: those of a test have the shape of the loop that computes it, at a place i of the text.
 use mathlib.Core.Path.{_≡_, refl, sym, ap, ap₂, _∙_}
-use mathlib.Core.Bool.{Bool, true, false, _&&_, and-true, and-false, and-assoc}
+use mathlib.Core.Bool.{Bool, true, false, not, _&&_, and-true, and-false, and-assoc}
 use mathlib.Core.List.{[], _∷_, _++_}
-use Prim.Native.Nat.{ℕ, suc, _+_, _-_, _≤_, _<_}
+use Prim.Native.Nat.{ℕ, zero, suc, _+_, _-_, _≤_, _<_}
 use native.Mathlib.Nat.{add-zero}
 use native.Mathlib.Numerals.{add-one}
 use native.Mathlib.Omega.{arith}
 use lib.ListN.{length, take, drop, getD, drop-of-length-le, length-drop}
 use lib.Seq.{drop-cons, take-suc, take-all, getD-drop}
 use lib.Dec.{eqb}
-use borrow.Author.Tests.{eq-eqb, ne-eqb, eqb-true}
+use borrow.Author.Tests.{eq-eqb, ne-eqb, eqb-true, not-true, not-false}
 use Rattle.reading.specs.Texts.{Text, tab, newline, same, has, all, startsWith, endsWith, part}
 use Rattle.reading.specs.Bytes.{isText}
 use Rattle.reading.specs.Lines.{toFieldEnd}
@@ -92,6 +92,25 @@ module _ (f : ℕ → Bool) (t : Text) (i : ℕ) (v : all f t ≡ all f (drop i 
   unfolding all
   all-end h = sym (v ∙ rw (drop-of-length-le t h))
 
+-- a byte fails, wherever it stands
+pub all-misses : (f : ℕ → Bool) (t : Text) (i : ℕ) (r : Bool) → i < length t → r ≡ f (getD t i 0) → not r ≡ true → false ≡ all f t
+unfolding all
+all-misses f [] i r h e n = absurd (omega arith)
+all-misses f (x ∷ xs) zero r h e n = rw (← e, not-true r n)
+all-misses f (x ∷ xs) (suc i) r h e n = rw (← all-misses f xs i r (omega arith) e n) (sym (and-false (f x)))
+
+-- four bytes: where three pass, the fourth tells
+pub all-four : (f : ℕ → Bool) (t : Text) (a b c d : Bool) → length t ≡ 4 → a ≡ f (getD t 0 0) → not a ≡ false → b ≡ f (getD t 1 0) → not b ≡ false
+    → c ≡ f (getD t 2 0) → not c ≡ false → d ≡ f (getD t 3 0) → d ≡ all f t
+unfolding all
+all-four f [] a b c d h e i g j l k m = absurd (omega arith)
+all-four f (x ∷ []) a b c d h e i g j l k m = absurd (omega arith)
+all-four f (x ∷ y ∷ []) a b c d h e i g j l k m = absurd (omega arith)
+all-four f (x ∷ y ∷ z ∷ []) a b c d h e i g j l k m = absurd (omega arith)
+all-four f (x ∷ y ∷ z ∷ u ∷ []) a b c d h e i g j l k m =
+    rw (← e, not-false a i, ← g, not-false b j, ← l, not-false c k, ← m) (sym (and-true d))
+all-four f (x ∷ y ∷ z ∷ u ∷ v ∷ t) a b c d h e i g j l k m = absurd (omega arith)
+
 -- a byte put behind a text
 pub all-snoc : (f : ℕ → Bool) (t : Text) (x : ℕ) → all f (t ++ x ∷ []) ≡ (all f t && f x)
 unfolding all
@@ -139,14 +158,14 @@ pub record Scanning (s : Text) (at : ℕ) (clean : Bool) (i : ℕ) : Type 0 wher
   pub ahead : at + toFieldEnd (drop at s) ≡ i + toFieldEnd (drop i s)
   pub so-far : clean ≡ all isText (part at i s)
 
+-- no byte of an empty part fails
+pub none-all : (f : ℕ → Bool) (s : Text) (at : ℕ) → true ≡ all f (part at at s)
+unfolding all
+none-all f s at = let z : at - at ≡ 0 = omega arith in rw z
+
 -- at its begin
 pub scan-begin : (s : Text) (at : ℕ) → Scanning s at true at
-unfolding all
-scan-begin s at = record {
-  begun = omega arith;
-  ahead = refl;
-  so-far = let z : at - at ≡ 0 = omega arith in rw z;
-}
+scan-begin s at = record { begun = omega arith; ahead = refl; so-far = none-all isText s at }
 
 -- the part up to i + 1 has one byte more
 pub part-snoc : (s : Text) (a i : ℕ) → a ≤ i → i < length s → part a (i + 1) s ≡ part a i s ++ getD s i 0 ∷ []
@@ -193,3 +212,25 @@ module _ (s : Text) (at : ℕ) (clean : Bool) (i : ℕ) (v : Scanning s at clean
   scan-other r k h e t n m l =
       let f : isText (getD s i 0) ≡ false = sym e ∙ t in
       rw (f, and-false clean, ← l) at (scan-on h n m)
+
+-- ---- text bytes passed over
+-- what `past_text` ensures, as the scan has it
+pub scan-past : (s : Text) (at i : ℕ) → at ≤ i → at + toFieldEnd (drop at s) ≡ i + toFieldEnd (drop i s) → true ≡ all isText (part at i s) → Scanning s at true i
+scan-past s at i h e c = record { begun = h; ahead = e; so-far = c }
+
+-- n text bytes belong to the field
+scan-all : (s : Text) (at i n : ℕ) → Scanning s at true i → i + n ≤ length s → all isText (part i (i + n) s) ≡ true → Scanning s at true (i + n)
+scan-all s at i zero v h e = rw (add-zero i) v
+scan-all s at i (suc n) v h e =
+    let k : i + suc n ≡ i + n + 1 = omega arith in
+    let l : i + n < length s = omega arith in
+    let so-far : Bool = all isText (part i (i + n) s) in
+    let here : Bool = isText (getD s (i + n) 0) in
+    let m : (so-far && here) ≡ true
+    = sym (all-snoc isText (part i (i + n) s) (getD s (i + n) 0)) ∙ rw (← part-snoc s i (i + n) (omega arith) l, ← k) e in
+    rw k (scan-text s at true (i + n) (scan-all s at i n v (omega arith) (and-left so-far here m)) true true l (sym (and-right so-far here m)) refl refl)
+
+-- four of them
+pub scan-four : (s : Text) (at i : ℕ) (r : Bool) → Scanning s at true i → 4 ≤ length s → i ≤ length s - 4 → r ≡ all isText (part i (i + 4) s) → not r ≡ false
+    → Scanning s at true (i + 4)
+scan-four s at i r v m h e n = scan-all s at i 4 v (omega arith) (sym e ∙ not-false r n)

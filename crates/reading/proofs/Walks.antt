@@ -15,7 +15,6 @@ use Rattle.reading.specs.Texts.{Text, newline, part}
 use Rattle.reading.specs.Lines.{Line, before, linesOf, toFieldEnd}
 use Rattle.reading.specs.Records.{Record, isKind, formed, alone, withField, recordNamed}
 use Rattle.reading.specs.Tables.{Tables, Fits, Stepping, next, wrong, Lining, bad, moved, ended, Filling, filled, unfilled, closing, fillFrom, fillShown, FillFits, FillOutcome, closedAt, startTables, region, textsAt, lineShown, stepFrom, recordWith, isEndKind, linedBy, lineWith, lineFrom, tablesAt, stepShown, StepFits, StepOutcome, LineEnd, Gone, LineFits, LineOutcome}
-use Rattle.reading.proofs.Cuts.{part-none, line-alone, line-two}
 use Rattle.reading.specs.Tallies.{startTally}
 use Rattle.reading.specs.declared.reader.Loaded.{Loaded}
 use Rattle.reading.specs.declared.reader.Loaded.the-variants.{Whole, Not}
@@ -70,27 +69,12 @@ module _ (s : Text) (c : Cursor) (T : Tables) (n : Named) (k : Kind) (f : Text) 
           fits = gone;
         }
 
--- ---- the line at the cursor, by where its fields end
+-- ---- the line at the cursor
 pub line-bad : (s : Text) (c : Cursor) (due : Lining) (f : Fault) (w : List ℕ) → due ≡ bad f → LineOutcome s c due (Bad f) w
 line-bad s c due f w e = record { answer = sym e; fits = tt }
 
-line-by : (s : Text) (c : Cursor) (due got : Lining) (r : Lined) (w : List ℕ) → due ≡ got → LineOutcome s c got r w → LineOutcome s c due r w
+pub line-by : (s : Text) (c : Cursor) (due got : Lining) (r : Lined) (w : List ℕ) → due ≡ got → LineOutcome s c got r w → LineOutcome s c due r w
 line-by s c due got r w e o = record { answer = o .answer ∙ sym e; fits = o .fits }
-
-module _ (s : Text) (c : Cursor) (T : Tables) (n : Named) (p : ℕ) (r : Lined) (w : List ℕ) (q : p ≡ c .at + toFieldEnd (drop (c .at) s)) (h : p < length s) where
-  -- a byte 10 behind the first field
-  pub line-one : getD s p 0 ≡ 10 → c .at < length s → n ≡ alone (part (c .at) p s)
-      → LineOutcome s c (lineWith T (recordNamed n (part p p s)) (linesOf (drop (p + 1) s))) r w → LineOutcome s c (lineFrom T (linesOf (drop (c .at) s))) r w
-  line-one e g i o =
-      line-by s c (lineFrom T (linesOf (drop (c .at) s))) (lineWith T (recordNamed n (part p p s)) (linesOf (drop (p + 1) s))) r w
-      (line-alone s (c .at) p q T g h e ∙ sym (rw (i, part-none s p))) o
-
-  -- a tab there, and a byte 10 behind the second
-  pub line-pair : (getD s p 0 ≡ 10 → ⊥) → (e : ℕ) → e ≡ p + 1 + toFieldEnd (drop (p + 1) s) → e < length s → getD s e 0 ≡ 10 → n ≡ withField (part (c .at) p s)
-      → LineOutcome s c (lineWith T (recordNamed n (part (p + 1) e s)) (linesOf (drop (e + 1) s))) r w → LineOutcome s c (lineFrom T (linesOf (drop (c .at) s))) r w
-  line-pair m e k g z i o =
-      line-by s c (lineFrom T (linesOf (drop (c .at) s))) (lineWith T (recordNamed n (part (p + 1) e s)) (linesOf (drop (e + 1) s))) r w
-      (line-two s (c .at) p e q h m k T g z ∙ sym (rw i)) o
 
 -- ---- all lines
 -- what reading comes to, by what its first line comes to

@@ -4,10 +4,10 @@ use mathlib.Core.Path.{_≡_}
 use mathlib.Core.Bool.{Bool, true, false, not, cond}
 use mathlib.Core.List.{List, [], _∷_, _++_, map}
 use mathlib.Core.Option.{Option, none, some}
-use lib.ListN.{length, take, drop}
-use lib.Dec.{ltb, leb}
+use lib.ListN.{length, take, drop, getD}
+use lib.Dec.{eqb, ltb, leb}
 use lib.Bits.{bitOr}
-use Rattle.reading.specs.Texts.{Text, bytes, same, run, onLast, part}
+use Rattle.reading.specs.Texts.{Text, bytes, same, startsWith, run, onLast, part}
 use Rattle.reading.specs.Lines.{Line, linesOf}
 use Rattle.reading.specs.Records.{Record, formed, placeOf, mayFollow, isKind, isStar}
 use Rattle.reading.specs.Names.{isRoleName, isName, isMethodName, isPattern, isConstraintKind}
@@ -15,6 +15,8 @@ use Rattle.reading.specs.Limits.{mostConstraints, mostCollections, mostP
 use Rattle.reading.specs.Sets.{withMember, withoutMember, everything, lowest}
 use Rattle.reading.specs.declared.records.Kind.{Kind}
 use Rattle.reading.specs.declared.records.Kind.the-variants.{Role, Constraint, Allow, Collection, Pattern, Method, Omit, End}
+use Rattle.reading.specs.declared.records.Named.the-variants.{Known, Unknown}
+use Rattle.reading.specs.declared.records.Headed.{Headed}
 use Rattle.reading.specs.declared.records.Place.{Place}
 use Rattle.reading.specs.declared.records.Place.the-variants.{AfterFirst, AfterRole, AfterOpen, AfterAuth, AfterAllow, AfterCollection, AfterPattern, AfterMethod, AfterOmit, AfterEnd}
 use Rattle.reading.specs.declared.answers.Fault.{Fault}
@@ -292,6 +294,17 @@ unfoldable pub checkRecord : Tables → Record → Option Fault
 unfolding fieldCheck
 checkRecord T r = cond (mayFollow (T .place) (r .kind)) (fieldCheck (r .kind) T (r .field)) (some WrongPlace)
 
+-- the places that a record of that kind may follow: a binary digit for each, by its number
+abbrev pub placesOf : Kind → ℕ
+placesOf Role = 3
+placesOf Constraint = 451
+placesOf Allow = 24
+placesOf Collection = 476
+placesOf Pattern = 96
+placesOf Method = 192
+placesOf Omit = 320
+placesOf End = 451
+
 -- ---- a step, a line, and all of them
 pub data Stepping : Type 0 where
   next : Tables → Stepping
@@ -307,6 +320,31 @@ recordWith k t = record { kind = k; field = t }
 unfoldable pub stepFrom : Tables → Record → Stepping
 unfolding checkRecord fieldAdd
 stepFrom T r = steppedBy (checkRecord T r) (tablesWith T r)
+
+-- ---- how a line begins: with a record's name, and a tab behind it or the line's end
+abbrev pub headed : Kind → ℕ → Headed
+headed k n = record { named = Known k; size = n }
+
+abbrev pub unheaded : Headed
+unheaded = record { named = Unknown; size = 0 }
+
+unfoldable pub headOfPart : Text → Headed
+unfolding startsWith
+headOfPart t =
+    cond (startsWith (bytes "role\t") t) (headed Role 5)
+    (cond (startsWith (bytes "constraint\t") t) (headed Constraint 11)
+    (cond (startsWith (bytes "collection\n") t) (headed Collection 10)
+    (cond (startsWith (bytes "end\n") t) (headed End 3)
+    unheaded)))
+
+unfoldable pub headOf : Text → Headed
+unfolding startsWith headOfPart
+headOf t =
+    cond (startsWith (bytes "method\t") t) (headed Method 7)
+    (cond (startsWith (bytes "omit\t") t) (headed Omit 5)
+    (cond (startsWith (bytes "pattern\t") t) (headed Pattern 8)
+    (cond (startsWith (bytes "allow\t") t) (headed Allow 6)
+    (headOfPart t))))
 
 -- what a line comes to: a fault, or the tables after it and the lines behind it, `end` told apart
 pub data Lining : Type 0 where
@@ -388,9 +426,23 @@ listingRoom = 720
 unfoldable pub region : List ℕ → ℕ → ℕ → List ℕ
 region w a n = take n (drop a w)
 
--- the text that a number names: its place times 256, and its length; none where it would run past the end
+-- a text's last byte and its length, in 16 binary digits
+unfoldable pub stampOf : Text → ℕ
+stampOf t = getD t (length t - 1) 0 % 256 * 256 + length t % 256
+
+-- the number that names the text of s from a up to e: its place, and its stamp
+abbrev pub packed : Text → ℕ → ℕ → ℕ
+packed s a e = a * 65536 + stampOf (part a e s)
+
+-- the text of that stamp, if it has it
+unfoldable pub stamped : Text → ℕ → Text
+unfolding stampOf
+stamped t k = cond (eqb (stampOf t) k) t []
+
+-- the text that a number names: as long as it says, at the place that it says, and none where that has another stamp
 unfoldable pub textAt : Text → ℕ → Text
-textAt s x = cond (leb (x / 256 + x % 256) (length s)) (take (x % 256) (drop (x / 256) s)) []
+unfolding stamped
+textAt s x = stamped (take (x % 256) (drop (x / 65536) s)) (x % 65536)
 
 unfoldable pub textsAt : Text → List ℕ → List Text
 unfolding textAt

@@ -106,25 +106,9 @@ pub fn line(table: &[u8; 256], s: &[u8], w: &mut [u32], t: Tally, c: Cursor) -> 
     ensures { λ r. ⌜ LineOutcome (now (s .entry)) c (lineFrom (tablesAt (now (s .entry)) t (now (w .entry))) (linesOf (drop (c .at) (now (s .entry))))) r (now (w .exit)) ⌝ }
 {
     let at = c.at;
-    let name = texts::scan(table, s, at);
-    let p = name.end;
-    if s.len() <= p {
-        return Lined::Bad(Fault::BadForm);
-    }
-    if s[p] == 10 {
-        return line_named(
-            table,
-            s,
-            w,
-            t,
-            c,
-            records::named_alone(&s[at..p]),
-            p,
-            p,
-            true,
-        );
-    }
-    let a = p + 1;
+    let head = records::head(&s[at..]);
+    let named = head.named;
+    let a = at + head.size;
     let field = texts::scan(table, s, a);
     let e = field.end;
     let clean = field.clean;
@@ -134,17 +118,7 @@ pub fn line(table: &[u8; 256], s: &[u8], w: &mut [u32], t: Tally, c: Cursor) -> 
     if s[e] != 10 {
         return Lined::Bad(Fault::BadForm);
     }
-    line_named(
-        table,
-        s,
-        w,
-        t,
-        c,
-        records::named_with_field(&s[at..p]),
-        a,
-        e,
-        clean,
-    )
+    line_named(table, s, w, t, c, named, a, e, clean)
 }
 
 // The lines behind the first.

@@ -1,7 +1,8 @@
 // The records of a listing, and which may follow which.
 ghost use mathlib.Core.Path.{_≡_};
-ghost use Rattle.reading.specs.Records.{alone, withField, placeNumber, kindNumber, mayFollow};
-ghost use Rattle.reading.specs.Tables.{isFirstMethod};
+ghost use Prim.Native.Nat.{_<_};
+ghost use Rattle.reading.specs.Records.{placeNumber, mayFollow};
+ghost use Rattle.reading.specs.Tables.{isFirstMethod, placesOf, headOfPart, headOf};
 use crate::texts;
 
 pub enum Kind {
@@ -35,42 +36,78 @@ pub enum Place {
     AfterEnd,
 }
 
-// The record that a name standing alone begins.
-pub fn named_alone(t: &[u8]) -> Named
-    ensures { λ r. ⌜ r ≡ alone (now (t .entry)) ⌝ }
-{
-    if texts::are_same(t, b"collection") {
-        return Named::Known(Kind::Collection);
-    }
-    if texts::are_same(t, b"end") {
-        return Named::Known(Kind::End);
-    }
-    Named::Unknown
+// How a line begins: what its record's name says, and how many bytes stand before its field. A name standing alone has an empty field,
+// which the byte 10 behind it ends.
+pub struct Headed {
+    pub named: Named,
+    pub size: usize,
 }
 
-// The record that a name with a field behind it begins.
-pub fn named_with_field(t: &[u8]) -> Named
-    ensures { λ r. ⌜ r ≡ withField (now (t .entry)) ⌝ }
+// The head of a line that begins a part of the listing.
+pub fn head_of_part(t: &[u8]) -> Headed
+    ensures is { λ r. ⌜ r ≡ headOfPart (now (t .entry)) ⌝ }
+    ensures small { λ r. ⌜ r .size < 100 ⌝ }
 {
-    if texts::are_same(t, b"method") {
-        return Named::Known(Kind::Method);
+    if texts::starts_with(b"role\t", t) {
+        return Headed {
+            named: Named::Known(Kind::Role),
+            size: 5,
+        };
     }
-    if texts::are_same(t, b"omit") {
-        return Named::Known(Kind::Omit);
+    if texts::starts_with(b"constraint\t", t) {
+        return Headed {
+            named: Named::Known(Kind::Constraint),
+            size: 11,
+        };
     }
-    if texts::are_same(t, b"pattern") {
-        return Named::Known(Kind::Pattern);
+    if texts::starts_with(b"collection\n", t) {
+        return Headed {
+            named: Named::Known(Kind::Collection),
+            size: 10,
+        };
     }
-    if texts::are_same(t, b"allow") {
-        return Named::Known(Kind::Allow);
+    if texts::starts_with(b"end\n", t) {
+        return Headed {
+            named: Named::Known(Kind::End),
+            size: 3,
+        };
     }
-    if texts::are_same(t, b"role") {
-        return Named::Known(Kind::Role);
+    Headed {
+        named: Named::Unknown,
+        size: 0,
     }
-    if texts::are_same(t, b"constraint") {
-        return Named::Known(Kind::Constraint);
+}
+
+// The head of any line, the commonest first.
+pub fn head(t: &[u8]) -> Headed
+    ensures is { λ r. ⌜ r ≡ headOf (now (t .entry)) ⌝ }
+    ensures small { λ r. ⌜ r .size < 100 ⌝ }
+{
+    if texts::starts_with(b"method\t", t) {
+        return Headed {
+            named: Named::Known(Kind::Method),
+            size: 7,
+        };
     }
-    Named::Unknown
+    if texts::starts_with(b"omit\t", t) {
+        return Headed {
+            named: Named::Known(Kind::Omit),
+            size: 5,
+        };
+    }
+    if texts::starts_with(b"pattern\t", t) {
+        return Headed {
+            named: Named::Known(Kind::Pattern),
+            size: 8,
+        };
+    }
+    if texts::starts_with(b"allow\t", t) {
+        return Headed {
+            named: Named::Known(Kind::Allow),
+            size: 6,
+        };
+    }
+    head_of_part(t)
 }
 
 pub fn place_number(p: Place) -> u8
@@ -90,40 +127,27 @@ pub fn place_number(p: Place) -> u8
     }
 }
 
-pub fn kind_number(k: Kind) -> u8
-    ensures { λ r. ⌜ r ≡ kindNumber k ⌝ }
+// The places that a record of kind k may follow: a binary digit for each, by its number.
+pub fn places(k: Kind) -> u32
+    ensures { λ r. ⌜ r ≡ placesOf k ⌝ }
 {
     match k {
-        Kind::Role => 0,
-        Kind::Constraint => 1,
-        Kind::Allow => 2,
-        Kind::Collection => 3,
-        Kind::Pattern => 4,
-        Kind::Method => 5,
-        Kind::Omit => 6,
-        Kind::End => 7,
+        Kind::Role => 3,
+        Kind::Constraint => 451,
+        Kind::Allow => 24,
+        Kind::Collection => 476,
+        Kind::Pattern => 96,
+        Kind::Method => 192,
+        Kind::Omit => 320,
+        Kind::End => 451,
     }
 }
-
-// A row for each kind and a column for each place: 1 where the record may stand there.
-const FOLLOWS: [u8; 80] = *b"\
-    \x01\x01\x00\x00\x00\x00\x00\x00\x00\x00\
-    \x01\x01\x00\x00\x00\x00\x01\x01\x01\x00\
-    \x00\x00\x00\x01\x01\x00\x00\x00\x00\x00\
-    \x00\x00\x01\x01\x01\x00\x01\x01\x01\x00\
-    \x00\x00\x00\x00\x00\x01\x01\x00\x00\x00\
-    \x00\x00\x00\x00\x00\x00\x01\x01\x00\x00\
-    \x00\x00\x00\x00\x00\x00\x01\x00\x01\x00\
-    \x01\x01\x00\x00\x00\x00\x01\x01\x01\x00";
 
 // Whether a record of kind k may stand at place p.
 pub fn may_follow(p: Place, k: Kind) -> bool
     ensures { λ r. ⌜ r ≡ mayFollow p k ⌝ }
 {
-    let row = kind_number(k);
-    let column = place_number(p);
-    let at = (row % 8) as usize * 10 + (column % 10) as usize;
-    FOLLOWS[at] == 1
+    places(k) >> (place_number(p) % 32) as u32 & 1 == 1
 }
 
 // Whether a `method` line here would be the first of its collection.

@@ -32,7 +32,7 @@ pub fn role(s: &[u8], w: &mut [u32], t: Tally, a: usize, e: usize, clean: bool) 
     if 32 <= n {
         return Stepped::Wrong(Fault::PastMost);
     }
-    tables::put_text(w, tables::ROLES + n, a, e);
+    tables::put_text(s, w, tables::ROLES + n, a, e);
     Stepped::Next(t.with_role())
 }
 
@@ -79,7 +79,7 @@ pub fn allow(s: &[u8], w: &mut [u32], t: Tally, a: usize, e: usize, clean: bool)
     if 32 <= n {
         return Stepped::Wrong(Fault::PastMost);
     }
-    tables::put_text(w, tables::ROLES + n, a, e);
+    tables::put_text(s, w, tables::ROLES + n, a, e);
     tables::allow_role(w, c, n);
     Stepped::Next(t.with_allowed())
 }
@@ -111,7 +111,7 @@ pub fn pattern(s: &[u8], w: &mut [u32], t: Tally, a: usize, e: usize, clean: boo
     if 128 <= n {
         return Stepped::Wrong(Fault::PastMost);
     }
-    tables::put_pattern(w, n, a, e, c, k);
+    tables::put_pattern(s, w, n, a, e, c, k);
     Stepped::Next(t.with_pattern())
 }
 
@@ -139,7 +139,7 @@ pub fn method(table: &[u8; 256], s: &[u8], w: &mut [u32], t: Tally, a: usize, e:
     if 31 <= n {
         return Stepped::Wrong(Fault::PastMost);
     }
-    tables::put_text(w, tables::METHODS + n, a, e);
+    tables::put_text(s, w, tables::METHODS + n, a, e);
     tables::cover(w, c, fresh, n);
     Stepped::Next(t.with_method(Place::AfterMethod))
 }
@@ -166,7 +166,7 @@ pub fn omit(table: &[u8; 256], s: &[u8], w: &mut [u32], t: Tally, a: usize, e: u
     if 31 <= n {
         return Stepped::Wrong(Fault::PastMost);
     }
-    tables::put_text(w, tables::METHODS + n, a, e);
+    tables::put_text(s, w, tables::METHODS + n, a, e);
     tables::uncover(w, c, n);
     Stepped::Next(t.with_method(Place::AfterOmit))
 }

@@ -5,7 +5,8 @@ ghost use lib.ListN.{length, set, getD};
 ghost use lib.Bits.{bitOr};
 ghost use mathlib.Core.Bool.{cond};
 ghost use Rattle.reading.specs.Sets.{withMember, withoutMember, lowest};
-ghost use Rattle.reading.specs.Tables.{indexOf, textAt, textsAt, region};
+ghost use Rattle.reading.specs.Texts.{same};
+ghost use Rattle.reading.specs.Tables.{indexOf, stampOf, packed, textAt, textsAt, region};
 ghost use Rattle.reading.specs.Tallies.{startTally, tallyAt, tallyRole, tallyConstraint, tallyAllowed, tallyCollection, tallyPattern, tallyLine, tallyMethod};
 use crate::records::Place;
 use crate::texts;
@@ -44,6 +45,24 @@ pub fn wide(x: u32) -> usize
     x as usize
 }
 
+pub fn of_byte(b: u8) -> u32
+    ensures { λ r. ⌜ r ≡ b ⌝ }
+{
+    b as u32
+}
+
+// The last byte of t and its length, as a number's last 16 digits hold them.
+pub fn stamp(t: &[u8]) -> u32
+    ensures is { λ r. ⌜ r ≡ stampOf (now (t .entry)) ⌝ }
+    ensures small { λ r. ⌜ r < 65536 ⌝ }
+{
+    if t.len() == 0 {
+        return 0;
+    }
+    let last = of_byte(t[t.len() - 1]);
+    last % 256 * 256 + (t.len() % 256) as u32
+}
+
 // A set of roles is 64 bits wide above this crate.
 pub fn wide_set(x: u32) -> u64
     ensures { λ r. ⌜ r ≡ x ⌝ }
@@ -51,18 +70,34 @@ pub fn wide_set(x: u32) -> u64
     x as u64
 }
 
-// The text that the number x names: its place times 256, and its length; none where it would run past the end.
+// The text that the number x names: its place, its last byte and its length; none where the text there has another stamp.
 pub fn text_at(s: &[u8], x: u32) -> &[u8]
     ensures { λ r. ⌜ now r ≡ textAt (now (s .entry)) x ⌝ }
 {
-    let from = wide(x / 256);
+    let from = wide(x / 65536);
     let n = wide(x % 256);
     let to = from + n;
-    if to <= s.len() {
+    if s.len() < to {
+        return &s[0..0];
+    }
+    if stamp(&s[from..to]) == x % 65536 {
         &s[from..to]
     } else {
         &s[0..0]
     }
+}
+
+// Whether x names t, whose stamp is `key`. Another stamp than t's tells at once that it does not, unless t is empty.
+pub fn is_named(s: &[u8], x: u32, key: u32, t: &[u8]) -> bool
+    requires { ⌜ key ≡ stampOf (now t) ⌝ }
+    ensures { λ r. ⌜ r ≡ same (textAt (now (s .entry)) x) (now (t .entry)) ⌝ }
+{
+    if x % 65536 != key {
+        if t.len() != 0 {
+            return false;
+        }
+    }
+    texts::are_same(text_at(s, x), t)
 }
 
 // The place of t among the n texts that the table names from `base` on, or n where it is none of them.
@@ -70,9 +105,10 @@ pub fn index(s: &[u8], w: &[u32], base: usize, n: usize, t: &[u8]) -> usize
     requires { ⌜ base + n ≤ length (now w) ⌝ }
     ensures { λ r. ⌜ r ≡ indexOf (now (t .entry)) (textsAt (now (s .entry)) (region (now (w .entry)) base n)) ⌝ }
 {
+    let key = stamp(t);
     let mut k = 0;
     while k < n {
-        if texts::are_same(text_at(s, w[base + k]), t) {
+        if is_named(s, w[base + k], key, t) {
             return k;
         }
         k += 1;
@@ -80,12 +116,12 @@ pub fn index(s: &[u8], w: &[u32], base: usize, n: usize, t: &[u8]) -> usize
     k
 }
 
-// The number i becomes the name of the text of a listing from a up to e.
-pub fn put_text(w: &mut [u32], i: usize, a: usize, e: usize)
-    requires { ⌜ (i < length (now w)) × ((a ≤ e) × ((e ≤ 24576) × (e - a < 256))) ⌝ }
-    ensures { λ _. ⌜ now (w .exit) ≡ set (now (w .entry)) i (a * 256 + (e - a)) ⌝ }
+// The number i becomes the name of the text of s from a up to e.
+pub fn put_text(s: &[u8], w: &mut [u32], i: usize, a: usize, e: usize)
+    requires { ⌜ (i < length (now w)) × ((a ≤ e) × ((e ≤ length (now s)) × (length (now s) ≤ 24576))) ⌝ }
+    ensures { λ _. ⌜ now (w .exit) ≡ set (now (w .entry)) i (packed (now (s .entry)) a e) ⌝ }
 {
-    w[i] = (a * 256 + (e - a)) as u32;
+    w[i] = a as u32 * 65536 + stamp(&s[a..e]);
 }
 
 // ---- sets of numbers below 32
@@ -127,12 +163,12 @@ pub fn put_constraint(w: &mut [u32], n: usize, mark: u32)
 }
 
 // The pattern that n others stand before: its text, and the numbers of its collection and of its constraint.
-pub fn put_pattern(w: &mut [u32], n: usize, a: usize, e: usize, c: usize, k: usize)
+pub fn put_pattern(s: &[u8], w: &mut [u32], n: usize, a: usize, e: usize, c: usize, k: usize)
     requires { ⌜ (320 + n < length (now w)) × ((n ≤ 128) × ((c ≤ 128) × (k ≤ 64))) ⌝ }
-    requires { ⌜ (a ≤ e) × ((e ≤ 24576) × (e - a < 256)) ⌝ }
-    ensures { λ _. ⌜ now (w .exit) ≡ set (set (set (now (w .entry)) (64 + n) (a * 256 + (e - a))) (192 + n) c) (320 + n) k ⌝ }
+    requires { ⌜ (a ≤ e) × ((e ≤ length (now s)) × (length (now s) ≤ 24576)) ⌝ }
+    ensures { λ _. ⌜ now (w .exit) ≡ set (set (set (now (w .entry)) (64 + n) (packed (now (s .entry)) a e)) (192 + n) c) (320 + n) k ⌝ }
 {
-    put_text(w, PATTERNS + n, a, e);
+    put_text(s, w, PATTERNS + n, a, e);
     w[OWNERS + n] = c as u32;
     w[PARENTS + n] = k as u32;
 }

@@ -1,7 +1,8 @@
 // Texts compared and scanned.
 ghost use mathlib.Core.Path.{_≡_};
-ghost use Prim.Native.Nat.{_+_};
-ghost use lib.ListN.{drop};
+ghost use mathlib.Core.Bool.{true};
+ghost use Prim.Native.Nat.{_+_, _≤_};
+ghost use lib.ListN.{length, drop};
 ghost use Rattle.reading.specs.Texts.{same, has, all, startsWith, endsWith, part, bytes};
 ghost use Rattle.reading.specs.Bytes.{isText, isToken, classTable};
 ghost use Rattle.reading.specs.Lines.{toFieldEnd};
@@ -90,6 +91,45 @@ pub fn all_token(table: &[u8; 256], t: &[u8]) -> bool
     true
 }
 
+// Whether the four bytes of t are all text bytes.
+pub fn four_text(table: &[u8; 256], t: &[u8]) -> bool
+    requires { ⌜ (now table ≡ classTable) × (length (now t) ≡ 4) ⌝ }
+    ensures { λ r. ⌜ r ≡ all isText (now (t .entry)) ⌝ }
+{
+    if !bytes::is_text(table, t[0]) {
+        return false;
+    }
+    if !bytes::is_text(table, t[1]) {
+        return false;
+    }
+    if !bytes::is_text(table, t[2]) {
+        return false;
+    }
+    bytes::is_text(table, t[3])
+}
+
+// A place behind some text bytes of s that stand from `at` on, taken four at a time.
+pub fn past_text(table: &[u8; 256], s: &[u8], at: usize) -> usize
+    requires { ⌜ now table ≡ classTable ⌝ }
+    ensures begun { λ r. ⌜ at ≤ r ⌝ }
+    ensures ahead { λ r. ⌜ at + toFieldEnd (drop at (now (s .entry))) ≡ r + toFieldEnd (drop r (now (s .entry))) ⌝ }
+    ensures clean { λ r. ⌜ true ≡ all isText (part at r (now (s .entry))) ⌝ }
+{
+    let mut i = at;
+    if s.len() < 4 {
+        return i;
+    }
+    let last = s.len() - 4;
+    while i <= last {
+        let next = i + 4;
+        if !four_text(table, &s[i..next]) {
+            return i;
+        }
+        i = next;
+    }
+    i
+}
+
 // A field's end: the next tab or byte 10, or the end of the text; and whether its bytes are all text bytes.
 pub struct Scanned {
     pub end: usize,
@@ -103,7 +143,7 @@ pub fn scan(table: &[u8; 256], s: &[u8], at: usize) -> Scanned
     ensures clean { λ r. ⌜ r .clean ≡ all isText (part at (r .end) (now (s .entry))) ⌝ }
 {
     let mut clean = true;
-    let mut i = at;
+    let mut i = past_text(table, s, at);
     while i < s.len() {
         let b = s[i];
         if !bytes::is_text(table, b) {

@@ -1,6 +1,6 @@
 -- `steps::allow` meets its contract: a law of Effects for each return.
 use borrow.Author.Needs.{needs}
-use Rattle.reading.proofs.Effects.{allow-bad, allow-star, allow-known, allow-past, allow-new, allow-put}
+use Rattle.reading.proofs.Effects.{allow-bad, allow-star, allow-known, allow-past, allow-new}
 use Rattle.reading.proofs.steps.allow.Statement.{statement}
 use Rattle.reading.proofs.steps.allow.Tie as tie
 
@@ -77,9 +77,7 @@ add-put-text : tie.Need-add-put-text
 add-put-text c = search needs
 
 put-text-requires : tie.Need-put-text-requires
-put-text-requires c κs =
-    let test = c .before .before .before .before .before .before .before .before .before in
-    allow-put _ _ _ _ _ (test .before .before .before .before .before .pre .0) _ (test .if1 .left) (test .before .is-name .ensures) (c .before .if4 .left)
+put-text-requires c κs = search needs
 
 allow-role-requires-2 : tie.Need-allow-role-requires-2
 allow-role-requires-2 c κs = search needs

@@ -1,6 +1,6 @@
 -- `steps::omit` meets its contract: a law of Effects for each return.
 use borrow.Author.Needs.{needs}
-use Rattle.reading.proofs.Effects.{line-bad, lines-past, omit-known, methods-past, omit-new, method-put}
+use Rattle.reading.proofs.Effects.{line-bad, lines-past, omit-known, methods-past, omit-new}
 use Rattle.reading.proofs.steps.omit.Statement.{statement}
 use Rattle.reading.proofs.steps.omit.Tie as tie
 
@@ -56,9 +56,7 @@ add-put-text : tie.Need-add-put-text
 add-put-text c = search needs
 
 put-text-requires : tie.Need-put-text-requires
-put-text-requires c κs =
-    let test = c .before .before .before .before .before .before .before in
-    method-put _ _ _ _ _ (test .before .before .before .before .before .pre .1) _ (test .if1 .left) (test .before .is-method-name .ensures) (c .before .if4 .left)
+put-text-requires c κs = search needs
 
 uncover-requires-2 : tie.Need-uncover-requires-2
 uncover-requires-2 c κs = search needs

@@ -1,6 +1,6 @@
 -- `steps::pattern` meets its contract: a law of Effects for each return.
 use borrow.Author.Needs.{needs}
-use Rattle.reading.proofs.Effects.{pattern-bad, pattern-past, pattern-next, pattern-put}
+use Rattle.reading.proofs.Effects.{pattern-bad, pattern-past, pattern-next}
 use Rattle.reading.proofs.steps.pattern.Statement.{statement}
 use Rattle.reading.proofs.steps.pattern.Tie as tie
 
@@ -23,9 +23,7 @@ returns-2 : tie.Need-returns-2
 returns-2 c = search (needs, pattern-past)
 
 put-pattern-requires : tie.Need-put-pattern-requires
-put-pattern-requires c κs =
-    let test = c .before .before in
-    pattern-put _ _ _ _ _ (test .before .before .before .before .before .pre .0) _ (test .if1 .left) (test .before .is-pattern .ensures) (c .before .if2 .left)
+put-pattern-requires c κs = search needs
 
 with-pattern-requires : tie.Need-with-pattern-requires
 with-pattern-requires c κs = search needs

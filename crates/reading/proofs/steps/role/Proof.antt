@@ -1,6 +1,6 @@
 -- `steps::role` meets its contract: a law of Effects for each return.
 use borrow.Author.Needs.{needs}
-use Rattle.reading.proofs.Effects.{role-bad, role-twice, role-past, role-next, role-put}
+use Rattle.reading.proofs.Effects.{role-bad, role-twice, role-past, role-next}
 use Rattle.reading.proofs.steps.role.Statement.{statement}
 use Rattle.reading.proofs.steps.role.Tie as tie
 
@@ -47,9 +47,7 @@ add-put-text : tie.Need-add-put-text
 add-put-text c = search needs
 
 put-text-requires : tie.Need-put-text-requires
-put-text-requires c κs =
-    let test = c .before .before .before .before .before .before in
-    role-put _ _ _ _ _ (test .before .before .before .before .before .pre .0) _ (test .if1 .left) (test .before .is-role-name .ensures) (c .before .if3 .left)
+put-text-requires c κs = search needs
 
 with-role-requires : tie.Need-with-role-requires
 with-role-requires c κs = search needs

@@ -9,28 +9,28 @@ use Rattle.reading.proofs.tables.index.Statement.{statement}
 use Rattle.reading.proofs.tables.index.Tie as tie
 
 abbrev Inv-loop : tie.InvT-loop
-Inv-loop s w base n t k₀ k = indexOf t (textsAt s (region w base n)) ≡ k + indexOf t (drop k (textsAt s (region w base n)))
+Inv-loop s w base n t key k₀ k = indexOf t (textsAt s (region w base n)) ≡ k + indexOf t (drop k (textsAt s (region w base n)))
 
 abbrev μ-loop : tie.MeasureT-loop
-μ-loop s w base n t k₀ k = n - k
+μ-loop s w base n t key k₀ k = n - k
+
+stamp-requires : tie.Need-stamp-requires Inv-loop μ-loop
+stamp-requires c κs = search needs
 
 loop-holds : tie.Need-loop-holds Inv-loop μ-loop
 loop-holds c = search (needs, index-start)
 
-add-text-at : tie.Need-add-text-at Inv-loop μ-loop
-add-text-at c = search needs
+add-is-named : tie.Need-add-is-named Inv-loop μ-loop
+add-is-named c = search needs
 
-mul-text-at : tie.Need-mul-text-at Inv-loop μ-loop
-mul-text-at c = search needs
+mul-is-named : tie.Need-mul-is-named Inv-loop μ-loop
+mul-is-named c = search needs
 
-shared-slice-read-text-at : tie.Need-shared-slice-read-text-at Inv-loop μ-loop
-shared-slice-read-text-at c = search needs
+shared-slice-read-is-named : tie.Need-shared-slice-read-is-named Inv-loop μ-loop
+shared-slice-read-is-named c = search needs
 
-text-at-requires : tie.Need-text-at-requires Inv-loop μ-loop
-text-at-requires c κs = search needs
-
-are-same-requires : tie.Need-are-same-requires Inv-loop μ-loop
-are-same-requires c κs = search needs
+is-named-requires : tie.Need-is-named-requires Inv-loop μ-loop
+is-named-requires c κs = search needs
 
 returns : tie.Need-returns Inv-loop μ-loop
 returns c = search (needs, index-hit)
@@ -53,12 +53,12 @@ index-spec =
     (tie.spec
     Inv-loop
     μ-loop
+    stamp-requires
     loop-holds
-    add-text-at
-    mul-text-at
-    shared-slice-read-text-at
-    text-at-requires
-    are-same-requires
+    add-is-named
+    mul-is-named
+    shared-slice-read-is-named
+    is-named-requires
     returns
     add-k
     loop-less

@@ -1,0 +1,33 @@
+-- 01's worked request 12, from the bytes of the listings to the bytes of the answer, as antt computes it.
+use mathlib.Core.Path.{_≡_, refl}
+use mathlib.Core.List.{_++_}
+use Rattle.reading.specs.Texts.{Text, bytes}
+use Rattle.reading.specs.Bytes.{isText, isToken}
+use Rattle.reading.specs.Names.{isRoleName, isMethodName}
+use Rattle.reading.specs.Records.{namesRole}
+use Rattle.reading.specs.Refusals.{readingOf}
+use Rattle.reading.specs.Listings.{listingOf}
+use Rattle.comparing.specs.Verdicts.{verdict}
+use Rattle.comparing.specs.Answers.{answerOf}
+use Rattle.comparing.specs.Outcomes.{answered, comparedOld}
+
+-- `old.txt` and `new.txt`: "New is old with these lines before `end`"
+pub oldText : Text
+oldText = bytes "constraints\t1\nrole\tassessor\nconstraint\tauth\nallow\tassessor\ncollection\npattern\t/clock/*\n" ++ bytes "end\n"
+
+-- with a constraint more
+pub newText : Text
+newText =
+    bytes "constraints\t1\nrole\tassessor\nconstraint\tauth\nallow\tassessor\ncollection\npattern\t/clock/*\n"
+    ++ bytes "constraint\tauth\nallow\tassessor\ncollection\npattern\t/clock/offset\nmethod\tGET\n"
+    ++ bytes "end\n"
+
+-- what the compare program prints
+pub worked-request-12 : comparedOld oldText newText (readingOf oldText) ≡ answered (bytes "verdict\twider\npath\t/clock/offset\nmethod\tQ0\ncaller\tnone\n")
+unfolding oldText newText readingOf isText isToken namesRole isMethodName isRoleName listingOf verdict answerOf
+worked-request-12 = refl
+
+-- the other way round nothing is granted anew
+pub worked-request-12-back : comparedOld newText oldText (readingOf newText) ≡ answered (bytes "verdict\tno wider\n")
+unfolding oldText newText readingOf isText isToken namesRole isMethodName isRoleName listingOf verdict answerOf
+worked-request-12-back = refl

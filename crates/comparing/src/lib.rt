@@ -1,0 +1,1 @@
+// Comparing two listings: the layer above `deciding`.

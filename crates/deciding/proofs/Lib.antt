@@ -1,0 +1,25 @@
+-- The laws and the theorems of deciding:
+--   Bests      matching in plain words, and the best match
+--   Promises   what the customer is promised
+--   Cases      01's worked requests 1 to 11
+--   Takings    what a loop over the `pattern` lines gathers
+--   Strengths  the best match by a number for each pattern text
+--   Shorts     a listing's patterns are few and short
+--   Matchings  the code that matches, and that chooses the strongest
+--   Holders    the caller as the listing sees it
+--   Callings   the caller's names, as the code reads them
+--   Turns      the constraints joined line by line, as the code meets them
+--   Joins      what the code joins gives Decisions' answer
+--   Calls      what the functions of the whole call hand to each other
+pub mod Bests
+pub mod Promises
+pub mod Cases
+pub mod Takings
+pub mod Strengths
+pub mod Shorts
+pub mod Matchings
+pub mod Holders
+pub mod Callings
+pub mod Turns
+pub mod Joins
+pub mod Calls

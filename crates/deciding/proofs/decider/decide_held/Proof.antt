@@ -1,0 +1,79 @@
+-- `decider::decide_held` meets its contract: a refusal for each test, then the answer.
+use borrow.Author.Needs.{needs}
+use mathlib.Core.Path.{_≡_}
+use mathlib.Core.Logic.{_⊎_, inl, inr}
+use Prim.Native.Nat.{ℕ}
+use native.Mathlib.Omega.{arith}
+use denote.Enum.Declared.{tagOf}
+use Rattle.deciding.specs.declared.callers.Held.{Held}
+use Rattle.deciding.specs.declared.callers.Held.the-variants.{Bad}
+use Rattle.deciding.proofs.callers.Held.{the-type}
+use Rattle.deciding.proofs.Calls.{path-refused, method-refused, caller-refused, request-answered}
+use Rattle.deciding.proofs.decider.decide_held.Statement.{statement}
+use Rattle.deciding.proofs.decider.decide_held.Tie as tie
+
+-- the variants behind the first are not bad
+not-bad : (h : Held) → (tagOf the-type h ≡ 1) ⊎ (tagOf the-type h ≡ 2) → h ≡ Bad → ⊥
+not-bad h (inl k) e = let z : _≡_ {A = ℕ} 0 1 = rw e at k in omega arith
+not-bad h (inr k) e = let z : _≡_ {A = ℕ} 0 2 = rw e at k in omega arith
+
+classes-requires : tie.Need-classes-requires
+classes-requires c κs = search needs
+
+is-path-requires : tie.Need-is-path-requires
+is-path-requires c κs = search needs
+
+refuse-requires : tie.Need-refuse-requires
+refuse-requires c κs = search needs
+
+returns : tie.Need-returns
+returns c = search (needs, path-refused)
+
+is-method-name-requires : tie.Need-is-method-name-requires
+is-method-name-requires c κs = search needs
+
+refuse-requires-2 : tie.Need-refuse-requires-2
+refuse-requires-2 c κs = search needs
+
+returns-2 : tie.Need-returns-2
+returns-2 c = search (needs, method-refused)
+
+caller-requires : tie.Need-caller-requires
+caller-requires c κs = search needs
+
+enum-told : tie.Need-enum-told
+enum-told c = search needs
+
+refuse-requires-3 : tie.Need-refuse-requires-3
+refuse-requires-3 c κs = search needs
+
+returns-3 : tie.Need-returns-3
+returns-3 c = search (needs, caller-refused)
+
+answer-for-requires : tie.Need-answer-for-requires
+answer-for-requires c κs = search needs
+
+number-requires : tie.Need-number-requires
+number-requires c κs = search needs
+
+returns-4 : tie.Need-returns-4
+returns-4 c = search (needs, request-answered, not-bad)
+
+pub decide-held-spec : {M : Type 1} → statement M
+decide-held-spec =
+    tie.close
+    (tie.spec
+    classes-requires
+    is-path-requires
+    refuse-requires
+    returns
+    is-method-name-requires
+    refuse-requires-2
+    returns-2
+    caller-requires
+    enum-told
+    refuse-requires-3
+    returns-3
+    answer-for-requires
+    number-requires
+    returns-4)

@@ -1,0 +1,50 @@
+-- `decisions::answer_to` meets its contract: one law for each return.
+use borrow.Author.Needs.{needs}
+use Rattle.deciding.proofs.Turns.{answer-none, answer-closed, answer-free, answer-bad, answer-nobody, answer-lacking, answer-by-role}
+use Rattle.deciding.proofs.decisions.answer_to.Statement.{statement}
+use Rattle.deciding.proofs.decisions.answer_to.Tie as tie
+
+returns : tie.Need-returns
+returns c = search (needs, answer-none)
+
+returns-2 : tie.Need-returns-2
+returns-2 c = search (needs, answer-closed)
+
+returns-3 : tie.Need-returns-3
+returns-3 c = search (needs, answer-free)
+
+enum-told : tie.Need-enum-told
+enum-told c = search needs
+
+enum-told-2 : tie.Need-enum-told-2
+enum-told-2 c = search needs
+
+enum-known-h : tie.Need-enum-known-h
+enum-known-h c = search needs
+
+returns-4 : tie.Need-returns-4
+returns-4 c = search (needs, answer-lacking)
+
+returns-5 : tie.Need-returns-5
+returns-5 c = search (needs, answer-bad)
+
+returns-6 : tie.Need-returns-6
+returns-6 c = search (needs, answer-nobody)
+
+returns-7 : tie.Need-returns-7
+returns-7 c = search (needs, answer-by-role)
+
+pub answer-to-spec : {M : Type 1} → statement M
+answer-to-spec =
+    tie.close
+    (tie.spec
+    returns
+    returns-2
+    returns-3
+    enum-told
+    enum-told-2
+    enum-known-h
+    returns-4
+    returns-5
+    returns-6
+    returns-7)

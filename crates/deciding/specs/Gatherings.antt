@@ -1,0 +1,55 @@
+-- The answer of a listing from its rules, one `pattern` line after the other: for the proofs alone, which show that it is Decisions' answer.
+use mathlib.Core.Bool.{Bool, true, false, not, cond, _&&_, _||_}
+use mathlib.Core.List.{List, [], _∷_}
+use Rattle.reading.specs.Texts.{Text, same, run}
+use Rattle.reading.specs.Listings.{Constrained, Listing, Rule, covers, closes, admits, rulesOf}
+use Rattle.deciding.specs.Requests.{Caller, nobody, holder}
+use Rattle.deciding.specs.declared.answers.Answer.{Answer}
+use Rattle.deciding.specs.declared.answers.Answer.the-variants.{Open, ByRole, Closed, LoginWanted, RoleLacking}
+
+-- the rule has that pattern text and covers the method
+unfoldable pub isFor : Text → Text → Rule → Bool
+unfolding same covers
+isFor t m r = same (r .text) t && covers (r .collection) m
+
+-- what the constraints of those rules come to so far: whether there is one, one that closes, one that is `open`, and one that admits a role
+pub record Gathered : Type 0 where
+  pub taken : Bool
+  pub closed : Bool
+  pub free : Bool
+  pub admitted : Text → Bool
+
+abbrev pub nothingGathered : Gathered
+nothingGathered = record { taken = false; closed = false; free = false; admitted = λ n. false }
+
+-- with one constraint more
+abbrev pub withConstraint : List Text → Gathered → Constrained → Gathered
+withConstraint declared g k = record {
+  taken = true;
+  closed = g .closed || closes k;
+  free = g .free || k .isOpen;
+  admitted = λ n. g .admitted n || admits declared k n;
+}
+
+-- with one rule more
+unfoldable pub withRule : List Text → Text → Text → Gathered → Rule → Gathered
+unfolding isFor closes admits
+withRule declared t m g r = cond (isFor t m r) (withConstraint declared g (r .constraint)) g
+
+unfoldable pub gathered : Listing → Text → Text → Gathered
+unfolding run withRule rulesOf
+gathered l t m = run (withRule (l .declared) t m) nothingGathered (rulesOf l)
+
+-- one of the names passes
+unfoldable pub anyName : (Text → Bool) → List Text → Bool
+anyName f [] = false
+anyName f (n ∷ ns) = f n || anyName f ns
+
+abbrev pub roleAnswer : (Text → Bool) → Caller → Answer
+roleAnswer f nobody = LoginWanted
+roleAnswer f (holder ns) = cond (anyName f ns) ByRole RoleLacking
+
+-- the answer from what is gathered
+unfoldable pub gatheredAnswer : Gathered → Caller → Answer
+unfolding anyName
+gatheredAnswer g c = cond (g .closed) Closed (cond (not (g .taken) || g .free) Open (roleAnswer (g .admitted) c))

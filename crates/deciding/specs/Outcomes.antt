@@ -1,0 +1,57 @@
+-- What `budquarry_decide` hands back, and what it leaves in the work table.
+use Prim.Native.Nat.{ℕ}
+use mathlib.Core.Path.{_≡_}
+use mathlib.Core.Bool.{Bool, true, false, cond, _||_}
+use mathlib.Core.List.{List}
+use mathlib.Core.Option.{Option, none, some}
+use lib.Dec.{eqb}
+use Rattle.reading.specs.Texts.{Text}
+use Rattle.reading.specs.Refusals.{Reading, accepted, refusal, numberOf, readingOf}
+use Rattle.reading.specs.Listings.{Listing, listingOf}
+use Rattle.reading.specs.Outcomes.{isShort, workAfter}
+use Rattle.deciding.specs.Requests.{Caller, Request, isPath, isMethod, callerOf}
+use Rattle.deciding.specs.Decisions.{decide, answerNumber}
+use Rattle.deciding.specs.declared.answers.Decision.{Decision}
+
+-- a refusal's answer is 0
+abbrev pub refused : ℕ → ℕ → ℕ → Decision
+refused number side line = record { number = number; side = side; line = line; answer = 0 }
+
+abbrev pub answered : ℕ → Decision
+answered a = record { number = 0; side = 0; line = 0; answer = a }
+
+-- the answers that are grants, by their numbers
+abbrev pub isGranted : Decision → Bool
+isGranted d = eqb (d .answer) 1 || eqb (d .answer) 2
+
+-- what the call is asked
+pub record Asked : Type 0 where
+  pub listing : Text
+  pub path : Text
+  pub method : Text
+  pub login : ℕ
+  pub names : Text
+
+abbrev pub decideCaller : Asked → Option Caller → Decision
+decideCaller a none = refused 13 0 0
+decideCaller a (some c) = answered (answerNumber (decide (listingOf (a .listing)) (record { path = a .path; method = a .method; caller = c })))
+
+-- 11, 12 and 13 behind the listing's own
+abbrev pub decideRequest : Asked → Decision
+decideRequest a =
+    cond (isPath (a .path))
+    (cond (isMethod (a .method)) (decideCaller a (callerOf (a .login) (a .names))) (refused 12 0 0))
+    (refused 11 0 0)
+
+abbrev pub decideListing : Asked → Reading → Decision
+decideListing a accepted = decideRequest a
+decideListing a (refusal f n) = refused (numberOf f) 1 n
+
+unfoldable pub decisionOf : Asked → List ℕ → Decision
+unfolding readingOf isPath callerOf decide listingOf
+decisionOf a w = cond (isShort w) (refused 1 0 0) (decideListing a (readingOf (a .listing)))
+
+-- the whole outcome of the call: what is handed back, and the work table after it
+pub record DecideOutcome (a : Asked) (w : List ℕ) (handed : Decision) (left : List ℕ) : Type 0 where
+  pub decision : handed ≡ decisionOf a w
+  pub work : left ≡ workAfter w

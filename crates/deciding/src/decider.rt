@@ -1,0 +1,143 @@
+// The whole call: reading the listing, then the request, then the answer.
+ghost use mathlib.Core.Path.{_≡_};
+ghost use Prim.Native.Nat.{_≤_};
+ghost use lib.ListN.{length};
+ghost use Rattle.reading.specs.Listings.{listingOf};
+ghost use Rattle.reading.specs.Outcomes.{zeroed};
+ghost use Rattle.reading.specs.Refusals.{readingOf};
+ghost use Rattle.reading.specs.Tables.{Holds, LoadOutcome};
+ghost use Rattle.deciding.specs.Outcomes.{DecideOutcome, decideListing, decideRequest};
+ghost use Rattle.deciding.specs.Deciders.{asked, answerFor};
+use crate::answers;
+use crate::answers::Answer;
+use crate::answers::Decision;
+use crate::callers;
+use crate::callers::Held;
+use crate::decisions;
+use crate::matching;
+use reading::answers::number;
+use reading::bytes;
+use reading::held;
+use reading::names;
+use reading::reader;
+use reading::reader::Loaded;
+use reading::tables::Tally;
+
+// A refusal, whose answer is 0.
+pub fn refuse(number: u32, side: u32, line: u32) -> Decision
+    ensures { λ r. ⌜ r ≡ record { number = number; side = side; line = line; answer = 0 } ⌝ }
+{
+    Decision {
+        number: number,
+        side: side,
+        line: line,
+        answer: 0,
+    }
+}
+
+// The answer to a caller for a path and a method.
+pub fn answer_for(s: &[u8], w: &[u32], t: Tally, path: &[u8], method: &[u8], h: Held) -> Answer
+    requires { ⌜ Holds (now s) t (now w) ⌝ }
+    ensures { λ r. ⌜ r ≡ answerFor (listingOf (now (s .entry))) (now (path .entry)) (now (method .entry)) h ⌝ }
+{
+    let best = decisions::strongest(s, w, t, path);
+    let most = best.most;
+    let at = best.at;
+    if most == 0 {
+        return Answer::Open;
+    }
+    let m = held::method_index(s, w, t, method);
+    let j = decisions::join_lines(s, w, t, held::pattern(s, w, t, at), m);
+    decisions::answer_to(j, h)
+}
+
+// A request to a listing that the table holds.
+pub fn decide_held(
+    s: &[u8],
+    w: &[u32],
+    t: Tally,
+    path: &[u8],
+    method: &[u8],
+    login: u32,
+    names: &[u8],
+) -> Decision
+    requires { ⌜ Holds (now s) t (now w) ⌝ }
+    ensures { λ r. ⌜ r ≡ decideRequest (asked (now (s .entry)) (now (path .entry)) (now (method .entry)) login (now (names .entry))) ⌝ }
+{
+    let table = bytes::classes();
+    if !matching::is_path(&table, path) {
+        return refuse(11, 0, 0);
+    }
+    if !names::is_method_name(&table, method) {
+        return refuse(12, 0, 0);
+    }
+    let h = callers::caller(&table, s, w, t, login, names);
+    if let Held::Bad = h {
+        return refuse(13, 0, 0);
+    }
+    let a = answer_for(s, w, t, path, method, h);
+    Decision {
+        number: 0,
+        side: 0,
+        line: 0,
+        answer: answers::number(a),
+    }
+}
+
+// What is decided once the listing is read into w.
+pub fn decide_loaded(
+    l: Loaded,
+    s: &[u8],
+    w: &[u32],
+    path: &[u8],
+    method: &[u8],
+    login: u32,
+    names: &[u8],
+) -> Decision
+    requires { ⌜ LoadOutcome (now s) l (now w) ⌝ }
+    ensures { λ r. ⌜ r ≡ decideListing (asked (now (s .entry)) (now (path .entry)) (now (method .entry)) login (now (names .entry))) (readingOf (now (s .entry))) ⌝ }
+{
+    match l {
+        Loaded::Not(f, n) => refuse(number(f), 1, n),
+        Loaded::Whole(t) => decide_held(s, w, t, path, method, login, names),
+    }
+}
+
+// The same with the first n numbers of w, which are 0 afterwards.
+pub fn decide_with(
+    s: &[u8],
+    path: &[u8],
+    method: &[u8],
+    login: u32,
+    names: &[u8],
+    w: &mut [u32],
+    n: usize,
+) -> Decision
+    requires { ⌜ (720 ≤ n) × (n ≤ length (now w)) ⌝ }
+    ensures handed { λ r. ⌜ r ≡ decideListing (asked (now (s .entry)) (now (path .entry)) (now (method .entry)) login (now (names .entry))) (readingOf (now (s .entry))) ⌝ }
+    ensures work { λ _. ⌜ now (w .exit) ≡ zeroed n (now (w .entry)) ⌝ }
+{
+    let l = reader::load(s, &mut w[..n]);
+    let d = decide_loaded(l, s, &w[..n], path, method, login, names);
+    reader::zero_first(w, n);
+    d
+}
+
+// Decides one request: open 1, by role 2, closed 3, login wanted 4, role lacking 5; 0 beside a refusal. login is 0, not logged in, or
+// 1; names are the caller's role names, each ended by byte 10.
+#[no_mangle]
+pub extern "C" fn budquarry_decide(
+    listing: &[u8],
+    path: &[u8],
+    method: &[u8],
+    login: u32,
+    roles: &[u8],
+    work: &mut [u32],
+) -> Decision
+    ensures { λ r. ⌜ DecideOutcome (asked (now (listing .entry)) (now (path .entry)) (now (method .entry)) login (now (roles .entry))) (now (work .entry)) r (now (work .exit)) ⌝ }
+{
+    if work.len() < reader::WORK {
+        return refuse(1, 0, 0);
+    }
+    decide_with(listing, path, method, login, roles, work, reader::WORK)
+}
