@@ -1,4 +1,4 @@
-# make            the archive and the test programs
+# make            the archive, the command and the test programs
 # make check      the project's own tests, without the prover's
 # make soak       the comparison with the second implementation on SOAK cases of a fresh seed
 # make bench      counted instructions and stack, as bench/RESULTS.md has them
@@ -8,7 +8,7 @@ WARN = -std=c11 -Wall -Wextra -Werror
 SEED ?= $(shell date +%s)
 SOAK ?= 3000000
 
-all: build/libbudquarry.a build/agree build/stack build/calls
+all: build/budquarry build/agree build/stack build/calls
 
 # The proved archive: the exported calls of each crate. rt proves before it builds.
 build/libbudquarry.a: $(shell find crates/reading crates/deciding -name '*.rt' -o -name '*.antt') crates.txt
@@ -27,6 +27,8 @@ build/generate.o: second/generate.c second/generate.h
 	mkdir -p build
 	$(X86) cc $(WARN) -O2 -c $< -o $@
 
+build/budquarry: command/budquarry.c include/budquarry.h build/libbudquarry.a
+	$(X86) cc $(WARN) -O2 -static command/budquarry.c build/libbudquarry.a -o $@
 build/agree: tests/agree.c include/budquarry.h build/second.o build/generate.o build/libbudquarry.a
 	$(X86) cc $(WARN) -O2 -static tests/agree.c build/second.o build/generate.o build/libbudquarry.a -o $@
 build/stack: bench/stack.c bench/full.h include/budquarry.h build/libbudquarry.a
@@ -34,7 +36,8 @@ build/stack: bench/stack.c bench/full.h include/budquarry.h build/libbudquarry.a
 build/calls: bench/calls.c bench/full.h include/budquarry.h build/yardstick.o build/libbudquarry.a
 	$(X86) cc $(WARN) -O2 -static bench/calls.c build/yardstick.o build/libbudquarry.a -o $@
 
-check: build/agree build/stack
+check: build/budquarry build/agree build/stack
+	tests/command
 	$(X86) run build/agree 1 100000
 	$(X86) run build/agree $(SEED) 20000
 	$(X86) run build/stack
