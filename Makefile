@@ -27,6 +27,10 @@ build/generate.o: second/generate.c second/generate.h
 	mkdir -p build
 	$(X86) cc $(WARN) -O2 -c $< -o $@
 
+build/edges: second/edges.c build/second.o build/yardstick.o
+	$(X86) cc $(WARN) -O2 -static $^ -o $@
+build/decide_edges: second/decide_edges.c build/second.o
+	$(X86) cc $(WARN) -O2 -static $^ -o $@
 build/budquarry: command/budquarry.c include/budquarry.h build/libbudquarry.a
 	$(X86) cc $(WARN) -O2 -static command/budquarry.c build/libbudquarry.a -o $@
 build/agree: tests/agree.c include/budquarry.h build/second.o build/generate.o build/libbudquarry.a
@@ -36,8 +40,9 @@ build/stack: bench/stack.c bench/full.h include/budquarry.h build/libbudquarry.a
 build/calls: bench/calls.c bench/full.h include/budquarry.h build/yardstick.o build/libbudquarry.a
 	$(X86) cc $(WARN) -O2 -static bench/calls.c build/yardstick.o build/libbudquarry.a -o $@
 
-check: build/budquarry build/agree build/stack
+check: build/budquarry build/agree build/stack build/edges build/decide_edges
 	tests/command
+	tests/stored
 	$(X86) run build/agree 1 100000
 	$(X86) run build/agree $(SEED) 20000
 	$(X86) run build/stack
