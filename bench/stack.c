@@ -1,4 +1,4 @@
-/* The stack that each call takes at its worst input, measured on a painted stack; exit 1 where one takes more than its limit. x86-64. */
+/* The stack that each call takes on the full listing, measured on a painted stack; exit 1 where one takes more than its limit. x86-64. */
 #include <stdint.h>
 #include <stdio.h>
 #include <string.h>
