@@ -135,7 +135,7 @@ each-joined : (P : Text → Type 0) (s t : List Text) → ((x : Text) → List·
 each-joined P s t f g x m = ⊎-elim (f x) (g x) (joined-of x s t m)
 
 module _ (new old : Listing) (N : Proper new) (O : Proper old) where
-  texts-small : total (patternsOf new ++ patternsOf old) < 90000
+  texts-small : total (patternsOf new ++ patternsOf old) < 65536
   texts-small =
       let a = total-most (patternsOf new) (N .short-patterns) in
       let b = total-most (patternsOf old) (O .short-patterns) in
@@ -151,7 +151,11 @@ module _ (new old : Listing) (N : Proper new) (O : Proper old) where
 
   -- their numbers are the first that will do, of all numbers
   pub filler-of-first : First (fills (patternsOf new ++ patternsOf old)) 0 (firstNumber (fills (patternsOf new ++ patternsOf old)))
-  filler-of-first = filler-is-first (patternsOf new ++ patternsOf old) texts-small
+  filler-of-first = filler-is-first (patternsOf new ++ patternsOf old) (omega (arith, texts-small)) .0
+
+  -- the filler's is below 65,536
+  pub filler-of-small : firstNumber (fills (patternsOf new ++ patternsOf old)) < 65536
+  filler-of-small = omega (arith, texts-small, filler-is-first (patternsOf new ++ patternsOf old) (omega (arith, texts-small)) .1)
 
   pub method-of-first : First (isUnnamed (new .methods ++ old .methods)) 0 (firstNumber (isUnnamed (new .methods ++ old .methods)))
   method-of-first = method-is-first (new .methods ++ old .methods) methods-few .0
@@ -159,7 +163,7 @@ module _ (new old : Listing) (N : Proper new) (O : Proper old) where
   -- the filler is one
   pub filler-of-fills : Filler (fillerOf new old) (patternsOf new ++ patternsOf old)
   unfolding fillerOf
-  filler-of-fills = filler-fills (patternsOf new ++ patternsOf old) texts-small
+  filler-of-fills = filler-fills (patternsOf new ++ patternsOf old) (omega (arith, texts-small))
 
   -- the filler method is named in neither
   pub method-of-unnamed : (member (fillerMethodOf new old) (new .methods) ≡ false) × (member (fillerMethodOf new old) (old .methods) ≡ false)

@@ -1,21 +1,20 @@
 -- The fillers exist: there are more candidates than places for them.
-use mathlib.Core.Path.{_≡_, refl, ap, _∙_}
-use mathlib.Core.Bool.{Bool, true, false, not, _&&_, _||_}
-use mathlib.Core.List.{List, [], _∷_, _++_, List·Memᴰ, List·Memᴰ·head, List·Memᴰ·tail, List·Memᴰ·cases-cons, List·Memᴰ·not-nil, Memᴰ·append-left, Memᴰ·append-right, tail-eq-of-cons-eq}
+use mathlib.Core.Path.{_≡_, refl, sym, ap, _∙_}
+use mathlib.Core.Bool.{Bool, true, false, not, cond, _&&_, _||_}
+use mathlib.Core.List.{List, [], _∷_, _++_, append-assoc, List·Memᴰ, List·Memᴰ·head, List·Memᴰ·tail, List·Memᴰ·cases-cons, List·Memᴰ·not-nil, Memᴰ·append-left, Memᴰ·append-right, tail-eq-of-cons-eq}
 use mathlib.Core.Logic.{_⊎_, inl, inr, ⊎-elim}
 use Prim.Native.Nat.{ℕ, suc, _+_, _≤_, _<_}
 use native.Mathlib.Omega.{arith}
-use lib.ListN.{length, take, length-append}
+use lib.ListN.{length, length-append}
 use lib.Dec.{eqb}
-use borrow.Author.Tests.{eqb-true, not-true, not-false}
+use borrow.Author.Tests.{eqb-true, eqb-false, eq-eqb, ne-eqb, not-true, not-false}
 use Rattle.reading.specs.Texts.{Text, slash, dot, has, all, startsWith, member}
-use Rattle.reading.proofs.Truths.{never, and-left, and-right, and-both}
+use Rattle.reading.proofs.Truths.{never, and-left, and-right, and-both, or-left, or-right}
 use Rattle.reading.proofs.Plainly.{member-plain}
 use Rattle.comparing.specs.Fillers.{digits, numbered, firstNumber, occurs, absent, fills, filler, isUnnamed, fillerMethod}
-use Rattle.comparing.proofs.Insides.{cons-same}
 use Rattle.comparing.proofs.StandIns.{Filler}
 use Rattle.comparing.proofs.Pigeons.{pigeons, below-or-none, First, first-from}
-use Rattle.comparing.proofs.Decimals.{digits-apart, digits-above, digits-pass, digits-most, digits-all}
+use Rattle.comparing.proofs.Decimals.{digits-apart, digits-without, digits-pass, digits-some, digits-most}
 
 -- the bytes of the texts
 unfoldable pub total : List Text → ℕ
@@ -26,58 +25,71 @@ total (t ∷ ts) = length t + total ts
 abbrev candidate : ℕ → ℕ → Text
 candidate b n = numbered (b ∷ []) n
 
--- ---- the places: the next k bytes from each byte on
-windows : ℕ → Text → List Text
-windows k [] = []
-windows k (x ∷ xs) = take k (x ∷ xs) ∷ windows k xs
+-- ---- the places: at each byte, the bytes from the last b on up to it
+-- those with one byte more
+since : ℕ → Text → ℕ → Text
+since b t x = cond (eqb x b) (b ∷ []) (t ++ x ∷ [])
+
+ends : ℕ → Text → Text → List Text
+ends b t [] = []
+ends b t (x ∷ xs) = since b t x ∷ ends b (since b t x) xs
 
 -- of all texts
 places : ℕ → List Text → List Text
-places k [] = []
-places k (t ∷ ts) = windows k t ++ places k ts
+places b [] = []
+places b (t ∷ ts) = ends b [] t ++ places b ts
 
 -- there are as many as bytes
-windows-length : (k : ℕ) (t : Text) → length (windows k t) ≡ length t
-unfolding windows
-windows-length k [] = refl
-windows-length k (x ∷ xs) = ap suc (windows-length k xs)
+ends-length : (b : ℕ) (s t : Text) → length (ends b s t) ≡ length t
+unfolding ends
+ends-length b s [] = refl
+ends-length b s (x ∷ xs) = ap suc (ends-length b (since b s x) xs)
 
-places-length : (k : ℕ) (ts : List Text) → length (places k ts) ≡ total ts
+places-length : (b : ℕ) (ts : List Text) → length (places b ts) ≡ total ts
 unfolding places total
-places-length k [] = refl
-places-length k (t ∷ ts) = length-append (windows k t) (places k ts) ∙ rw (windows-length k t, places-length k ts)
+places-length b [] = refl
+places-length b (t ∷ ts) = length-append (ends b [] t) (places b ts) ∙ rw (ends-length b [] t, places-length b ts)
 
--- what a text starts with is its first bytes
-starts-take : (s t : Text) → startsWith s t ≡ true → s ≡ take (length s) t
-unfolding startsWith
-starts-take [] t e = refl
-starts-take (x ∷ xs) [] e = absurd (never false e refl)
-starts-take (x ∷ xs) (y ∷ ys) e = cons-same (eqb-true x y (and-left (eqb x y) (startsWith xs ys) e)) (starts-take xs ys (and-right (eqb x y) (startsWith xs ys) e))
+-- bytes that a text goes on with, none of them b, stand at one of its places, behind what comes before
+starts-end : (b : ℕ) (xs : Text) (x : ℕ) (s t : Text) → has b (x ∷ xs) ≡ false → startsWith (x ∷ xs) t ≡ true → List·Memᴰ (s ++ x ∷ xs) (ends b s t)
+unfolding ends since has startsWith
+starts-end b xs x s [] h e = absurd (never false e refl)
+starts-end b [] x s (y ∷ ys) h e =
+    let q : x ≡ y = eqb-true x y (and-left (eqb x y) true e) in
+    let o : eqb y b ≡ false = ne-eqb y b (λ f. eqb-false b x (or-left (eqb b x) false h) (sym f ∙ sym q)) in
+    let r : s ++ x ∷ [] ≡ since b s y = rw (o, q) in
+    List·Memᴰ·head r
+starts-end b (z ∷ zs) x s (y ∷ ys) h e =
+    let q : x ≡ y = eqb-true x y (and-left (eqb x y) (startsWith (z ∷ zs) ys) e) in
+    let o : eqb y b ≡ false = ne-eqb y b (λ f. eqb-false b x (or-left (eqb b x) (has b (z ∷ zs)) h) (sym f ∙ sym q)) in
+    let r : since b s y ++ z ∷ zs ≡ s ++ x ∷ z ∷ zs = rw (o, ← q) (append-assoc s (x ∷ []) (z ∷ zs)) in
+    List·Memᴰ·tail (rw r at (starts-end b zs z (since b s y) ys (or-right (eqb b x) (has b (z ∷ zs)) h) (and-right (eqb x y) (startsWith (z ∷ zs) ys) e)))
 
--- what occurs inside a text stands at one of its places
-occurs-window : (b : ℕ) (s t : Text) → occurs (b ∷ s) t ≡ true → List·Memᴰ (b ∷ s) (windows (suc (length s)) t)
-unfolding occurs windows
-occurs-window b s [] e = absurd (never false e refl)
-occurs-window b s (y ∷ ys) e = go (startsWith (b ∷ s) (y ∷ ys)) refl e (occurs-window b s ys)
+-- b and such bytes, where they occur inside a text, stand at one of its places
+occurs-end : (b : ℕ) (d s t : Text) → 1 ≤ length d → has b d ≡ false → occurs (b ∷ d) t ≡ true → List·Memᴰ (b ∷ d) (ends b s t)
+unfolding ends since occurs startsWith
+occurs-end b [] s t l h e = absurd (omega arith)
+occurs-end b (x ∷ xs) s [] l h e = absurd (never false e refl)
+occurs-end b (x ∷ xs) s (y ∷ ys) l h e = go (startsWith (b ∷ x ∷ xs) (y ∷ ys)) refl e (λ u. occurs-end b (x ∷ xs) u ys l h)
   where
-    go : (c : Bool) → startsWith (b ∷ s) (y ∷ ys) ≡ c → c || occurs (b ∷ s) ys ≡ true → (occurs (b ∷ s) ys ≡ true → List·Memᴰ (b ∷ s) (windows (suc (length s)) ys))
-        → List·Memᴰ (b ∷ s) (take (suc (length s)) (y ∷ ys) ∷ windows (suc (length s)) ys)
-    go true q h ih = List·Memᴰ·head (starts-take (b ∷ s) (y ∷ ys) q)
-    go false q h ih = List·Memᴰ·tail (ih h)
+    go : (c : Bool) → startsWith (b ∷ x ∷ xs) (y ∷ ys) ≡ c → c || occurs (b ∷ x ∷ xs) ys ≡ true
+        → ((u : Text) → occurs (b ∷ x ∷ xs) ys ≡ true → List·Memᴰ (b ∷ x ∷ xs) (ends b u ys))
+        → List·Memᴰ (b ∷ x ∷ xs) (since b s y ∷ ends b (since b s y) ys)
+    go true q k ih =
+        let o : eqb y b ≡ true = eq-eqb y b (sym (eqb-true b y (and-left (eqb b y) (startsWith (x ∷ xs) ys) q))) in
+        rw o (List·Memᴰ·tail (starts-end b xs x (b ∷ []) ys h (and-right (eqb b y) (startsWith (x ∷ xs) ys) q)))
+    go false q k ih = List·Memᴰ·tail (ih (since b s y) k)
 
 -- and so for several texts
-present-place : (b : ℕ) (s : Text) (ts : List Text) → absent (b ∷ s) ts ≡ false → List·Memᴰ (b ∷ s) (places (suc (length s)) ts)
+present-place : (b : ℕ) (d : Text) (ts : List Text) → 1 ≤ length d → has b d ≡ false → absent (b ∷ d) ts ≡ false → List·Memᴰ (b ∷ d) (places b ts)
 unfolding absent places
-present-place b s [] e = absurd (never true refl e)
-present-place b s (t ∷ ts) e = go (occurs (b ∷ s) t) refl e (present-place b s ts)
+present-place b d [] l h e = absurd (never true refl e)
+present-place b d (t ∷ ts) l h e = go (occurs (b ∷ d) t) refl e (present-place b d ts l h)
   where
-    k : ℕ
-    k = suc (length s)
-
-    go : (c : Bool) → occurs (b ∷ s) t ≡ c → not c && absent (b ∷ s) ts ≡ false → (absent (b ∷ s) ts ≡ false → List·Memᴰ (b ∷ s) (places k ts))
-        → List·Memᴰ (b ∷ s) (windows k t ++ places k ts)
-    go true q h ih = Memᴰ·append-left (places k ts) (occurs-window b s t q)
-    go false q h ih = Memᴰ·append-right (windows k t) (ih h)
+    go : (c : Bool) → occurs (b ∷ d) t ≡ c → not c && absent (b ∷ d) ts ≡ false → (absent (b ∷ d) ts ≡ false → List·Memᴰ (b ∷ d) (places b ts))
+        → List·Memᴰ (b ∷ d) (ends b [] t ++ places b ts)
+    go true q k ih = Memᴰ·append-left (places b ts) (occurs-end b d [] t l h q)
+    go false q k ih = Memᴰ·append-right (ends b [] t) (ih k)
 
 -- what is absent occurs inside none
 pub absent-each : (s : Text) (ts : List Text) → absent s ts ≡ true → (t : Text) → List·Memᴰ t ts → occurs s t ≡ false
@@ -88,43 +100,40 @@ absent-each s (u ∷ us) e t m =
     (λ (k : List·Memᴰ t us). absent-each s us (and-right (not (occurs s u)) (absent s us) e) t k)
     (List·Memᴰ·cases-cons m)
 
--- ---- the filler: of the 90,000 candidates with five digits, no two fit one place
-free-candidate : (b : ℕ) (ts : List Text) → total ts < 90000 → (j : ℕ) × (j < 100000) × (absent (candidate b j) ts ≡ true)
-free-candidate b ts small = go (below-or-none (λ i. absent (candidate b (10000 + i)) ts) 90000)
+-- ---- the filler: of one candidate more than there are bytes, one stands at no place
+free-candidate : (b : ℕ) → 57 < b → (ts : List Text) → total ts < 100000 → (j : ℕ) × (j ≤ total ts) × (absent (candidate b j) ts ≡ true)
+free-candidate b letter ts small = go (below-or-none (λ i. absent (candidate b i) ts) (suc (total ts)))
   where
-    apart : (i j : ℕ) → i < 90000 → j < 90000 → candidate b (10000 + i) ≡ candidate b (10000 + j) → i ≡ j
-    apart i j h k e =
-        let q : 10000 + i ≡ 10000 + j = digits-apart 5 (10000 + i) (10000 + j) (omega arith) (omega arith) (tail-eq-of-cons-eq e) in
-        omega arith
+    apart : (i j : ℕ) → i < suc (total ts) → j < suc (total ts) → candidate b i ≡ candidate b j → i ≡ j
+    apart i j h k e = digits-apart 5 i j (omega arith) (omega arith) (tail-eq-of-cons-eq e)
 
-    held : ((i : ℕ) → i < 90000 → absent (candidate b (10000 + i)) ts ≡ false) → (i : ℕ) → i < 90000 → List·Memᴰ (candidate b (10000 + i)) (places 6 ts)
-    held n i h =
-        let l : length (digits 5 (10000 + i)) ≡ 5 = digits-all 4 (10000 + i) (omega arith) (omega arith) in
-        rw (ap suc l) at (present-place b (digits 5 (10000 + i)) ts (n i h))
+    held : ((i : ℕ) → i < suc (total ts) → absent (candidate b i) ts ≡ false) → (i : ℕ) → i < suc (total ts) → List·Memᴰ (candidate b i) (places b ts)
+    held n i h = present-place b (digits 5 i) ts (digits-some 4 i) (digits-without b 5 i (λ d l e. omega arith)) (n i h)
 
-    go : ((i : ℕ) × (i < 90000) × (absent (candidate b (10000 + i)) ts ≡ true)) ⊎ ((i : ℕ) → i < 90000 → absent (candidate b (10000 + i)) ts ≡ false)
-        → (j : ℕ) × (j < 100000) × (absent (candidate b j) ts ≡ true)
-    go (inl r) = let h = r .1 in (10000 + r .0, omega arith, r .2)
+    go : ((i : ℕ) × (i < suc (total ts)) × (absent (candidate b i) ts ≡ true)) ⊎ ((i : ℕ) → i < suc (total ts) → absent (candidate b i) ts ≡ false)
+        → (j : ℕ) × (j ≤ total ts) × (absent (candidate b j) ts ≡ true)
+    go (inl r) = let h = r .1 in (r .0, omega arith, r .2)
     go (inr n) =
-        let h = pigeons 90000 (λ i. candidate b (10000 + i)) (places 6 ts) apart (held n) in
-        let e = places-length 6 ts in
+        let h = pigeons (suc (total ts)) (λ i. candidate b i) (places b ts) apart (held n) in
+        let e = places-length b ts in
         absurd (omega arith)
 
--- the filler's number is the first that will do: "the first of `q0`, `q1`, `q2`.. that occurs inside no pattern text"
-pub filler-is-first : (ts : List Text) → total ts < 90000 → First (fills ts) 0 (firstNumber (fills ts))
+-- the filler's number is the first that will do, and no more than there are bytes: "the first of `q0`, `q1`, `q2`.. that occurs inside no pattern text"
+pub filler-is-first : (ts : List Text) → total ts < 100000 → First (fills ts) 0 (firstNumber (fills ts)) × (firstNumber (fills ts) ≤ total ts)
 unfolding fills
 filler-is-first ts small =
-    let r = free-candidate 113 ts small in
+    let r = free-candidate 113 (omega arith) ts small in
     let l : r .0 < 0 + 100000 = omega arith in
-    first-from (fills ts) 100000 0 (r .0) (omega arith) l (r .2) .0
+    let s = first-from (fills ts) 100000 0 (r .0) (omega arith) l (r .2) in
+    (s .0, omega arith)
 
 -- so the filler is one
-pub filler-fills : (ts : List Text) → total ts < 90000 → Filler (filler ts) ts
+pub filler-fills : (ts : List Text) → total ts < 100000 → Filler (filler ts) ts
 unfolding filler fills has
 filler-fills ts small = record {
-  no-slash = digits-above slash 5 (firstNumber (fills ts)) (omega arith);
-  no-dot = digits-above dot 5 (firstNumber (fills ts)) (omega arith);
-  fresh = absent-each (candidate 113 (firstNumber (fills ts))) ts (filler-is-first ts small .passes);
+  no-slash = digits-without slash 5 (firstNumber (fills ts)) (λ d h e. omega arith);
+  no-dot = digits-without dot 5 (firstNumber (fills ts)) (λ d h e. omega arith);
+  fresh = absent-each (candidate 113 (firstNumber (fills ts))) ts (filler-is-first ts small .0 .passes);
 }
 
 -- it has six bytes at most

@@ -24,7 +24,7 @@ pub data Form (f : Text) (ts : List Text) (x : Text) : Type 0 where
   with : (p e t : Text) → Listed ts p → List·Memᴰ t ts → kindOf t ≡ extension e → x ≡ dotted p f e → Form f ts x
 
 -- an extension is a listed pattern's
-extension-of : (ts : List Text) (e : Text) → List·Memᴰ e (extensions ts) → (t : Text) × List·Memᴰ t ts × (kindOf t ≡ extension e)
+pub extension-of : (ts : List Text) (e : Text) → List·Memᴰ e (extensions ts) → (t : Text) × List·Memᴰ t ts × (kindOf t ≡ extension e)
 unfolding extensions
 extension-of [] e m = absurd (List·Memᴰ·not-nil m)
 extension-of (t ∷ ts) e m = go (kindOf t) refl (List·Memᴰ·append-cases (extensionIn (kindOf t)) m) (extension-of ts e)

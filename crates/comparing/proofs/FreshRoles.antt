@@ -1,19 +1,25 @@
--- The first role that new admits and old does not, by sets: it is where the trailing zeros of new minus old end.
-use mathlib.Core.Path.{_≡_, refl, ap, _∙_}
-use mathlib.Core.Bool.{Bool, true, false, not, cond, _&&_}
-use mathlib.Core.List.{List, [], _∷_}
-use mathlib.Core.Option.{some}
-use Prim.Native.Nat.{ℕ, zero, suc, _+_, _*_, _/_, _%_, _≤_}
+-- The first caller whom new grants and old does not, by sets: it is where the trailing zeros of new minus old end.
+use mathlib.Core.Path.{_≡_, refl, sym, ap, ap₂, fun-ext, _∙_}
+use mathlib.Core.Bool.{Bool, true, false, not, cond, _&&_, and-false}
+use mathlib.Core.List.{List, [], _∷_, _++_}
+use mathlib.Core.Option.{Option, none, some, Option·map}
+use Prim.Native.Nat.{ℕ, zero, suc, _+_, _-_, _*_, _/_, _%_, _≤_}
 use native.Mathlib.Omega.{arith}
 use lib.ListN.{length, getD}
-use lib.Dec.{ltb, leb·suc-suc}
-use borrow.Author.Tests.{lt-ltb}
+use lib.Dec.{eqb, ltb, leb·suc-suc, leb·suc-zero}
+use borrow.Author.Tests.{lt-ltb, ne-eqb}
 use lib.Bits.{bitAnd}
 use lib.Count.{under, trailingZeros}
 use Rattle.reading.specs.Texts.{Text, member, first}
 use Rattle.reading.specs.Sets.{setOf}
-use Rattle.reading.proofs.Digits.{set-and, set-not}
-use Rattle.comparing.specs.Loops.{freshRole, namesSet, freshPlace, nameAt}
+use Rattle.reading.proofs.Truths.{never, not-so}
+use Rattle.reading.proofs.Digits.{set-same, set-none, set-and, set-not}
+use Rattle.deciding.specs.Requests.{Caller, nobody}
+use Rattle.deciding.specs.Decisions.{Combined, combinedOpen, combinedClosed, union}
+use Rattle.comparing.specs.Trials.{one, further, joined}
+use Rattle.comparing.specs.Loops.{freshRole, shownCaller}
+use Rattle.comparing.specs.Sides.{callerAt, everyone}
+use Rattle.comparing.proofs.Grantees.{grantsTo, seenBy}
 
 -- the first of the numbers below k that passes, or k
 firstPlace : ℕ → (ℕ → Bool) → ℕ
@@ -40,36 +46,118 @@ trailing-set (suc k) f = go (f 0) (setOf k (λ i. f (suc i))) (trailing-set k (�
         let h : (0 + 2 * x) / 2 ≡ x = omega arith in
         rw (e, h, ih)
 
+-- a set whose members are each one higher is empty where it was
+doubled : (x : ℕ) → eqb (0 + 2 * x) 0 ≡ eqb x 0
+doubled zero = refl
+doubled (suc x) = ne-eqb (0 + 2 * suc x) 0 (λ q. omega arith) ∙ sym (ne-eqb (suc x) 0 (λ q. omega arith))
+
 -- name i is in the one set and not in the other
 abbrev freshAt : (Text → Bool) → (Text → Bool) → List Text → ℕ → Bool
 freshAt f g ns i = (ltb i (length ns) && f (getD ns i [])) && not (ltb i (length ns) && g (getD ns i []))
 
--- the first place that passes is the first name's
-place-name : (f g : Text → Bool) (ns : List Text) (k : ℕ) → length ns ≤ k → nameAt ns (firstPlace k (freshAt f g ns)) ≡ first (λ n. f n && not (g n)) ns
-unfolding firstPlace nameAt first
-place-name f g [] k h = refl
-place-name f g (n ∷ ns) zero h = absurd (omega arith)
-place-name f g (n ∷ ns) (suc k) h =
+-- the first place that passes is the first name's, where none of further names passes
+place-name : (f g : Text → Bool) (ns more : List Text) (k : ℕ) → length ns ≤ k → first (λ n. f n && not (g n)) more ≡ none
+    → cond (eqb (setOf k (freshAt f g ns)) 0) none (some (getD ns (firstPlace k (freshAt f g ns)) [])) ≡ first (λ n. f n && not (g n)) (ns ++ more)
+unfolding firstPlace first setOf
+place-name f g [] more k h e = rw (set-none k (freshAt f g []) (λ i. rw leb·suc-zero)) (sym e)
+place-name f g (n ∷ ns) more zero h e = absurd (omega arith)
+place-name f g (n ∷ ns) more (suc k) h e =
     let here : ltb 0 (suc (length ns)) ≡ true = lt-ltb 0 (suc (length ns)) (omega arith) in
-    ap (λ (b : Bool). nameAt (n ∷ ns) (cond ((b && f n) && not (b && g n)) 0 (suc (firstPlace k (λ i. freshAt f g (n ∷ ns) (suc i)))))) here
-    ∙ go (f n && not (g n)) (place-name f g ns k (omega arith))
+    ap (λ (b : Bool). found ((b && f n) && not (b && g n)) (setOf k later) (firstPlace k later)) here
+    ∙ ap₂ (found (f n && not (g n))) (set-same k later (freshAt f g ns) (λ i q. after i)) (place-same k later (freshAt f g ns) after)
+    ∙ go (f n && not (g n)) (place-name f g ns more k (omega arith) e)
   where
-    later : firstPlace k (λ i. freshAt f g (n ∷ ns) (suc i)) ≡ firstPlace k (freshAt f g ns)
-    later = place-same k (λ i. freshAt f g (n ∷ ns) (suc i)) (freshAt f g ns) (λ i. rw leb·suc-suc)
+    found : Bool → ℕ → ℕ → Option Text
+    found b x i = cond (eqb (cond b 1 0 + 2 * x) 0) none (some (getD (n ∷ ns) (cond b 0 (suc i)) []))
 
-    go : (b : Bool) → nameAt ns (firstPlace k (freshAt f g ns)) ≡ first (λ n. f n && not (g n)) ns
-        → nameAt (n ∷ ns) (cond b 0 (suc (firstPlace k (λ i. freshAt f g (n ∷ ns) (suc i))))) ≡ cond b (some n) (first (λ n. f n && not (g n)) ns)
-    go true ih = refl
-    go false ih = ap (nameAt ns) later ∙ ih
+    later : ℕ → Bool
+    later i = freshAt f g (n ∷ ns) (suc i)
 
--- so the role is found by the sets
-pub fresh-by-sets : (rs os ns : List Text) → length ns ≤ 64
-    → nameAt ns (freshPlace (namesSet (λ n. member n rs) ns) (namesSet (λ n. member n os) ns)) ≡ freshRole rs os ns
-unfolding freshPlace namesSet freshRole
-fresh-by-sets rs os ns h =
-    let f : ℕ → Bool = λ i. ltb i (length ns) && member (getD ns i []) rs in
-    let g : ℕ → Bool = λ i. ltb i (length ns) && member (getD ns i []) os in
-    ap (λ (x : ℕ). nameAt ns (trailingZeros 64 (bitAnd (setOf 64 f) x))) (set-not 64 g)
-    ∙ ap (λ (x : ℕ). nameAt ns (trailingZeros 64 x)) (set-and 64 f (λ i. not (g i)))
-    ∙ ap (nameAt ns) (trailing-set 64 (λ i. f i && not (g i)))
-    ∙ place-name (λ n. member n rs) (λ n. member n os) ns 64 h
+    after : (i : ℕ) → later i ≡ freshAt f g ns i
+    after i = rw leb·suc-suc
+
+    go : (b : Bool) → cond (eqb (setOf k (freshAt f g ns)) 0) none (some (getD ns (firstPlace k (freshAt f g ns)) [])) ≡ first (λ n. f n && not (g n)) (ns ++ more)
+        → found b (setOf k (freshAt f g ns)) (firstPlace k (freshAt f g ns)) ≡ cond b (some n) (first (λ n. f n && not (g n)) (ns ++ more))
+    go true ih = rw (ne-eqb (1 + 2 * setOf k (freshAt f g ns)) 0 (λ q. omega arith))
+    go false ih = rw (doubled (setOf k (freshAt f g ns))) ih
+
+-- further names of old are none that new admits
+further-none : (f : Text → Bool) (us vs : List Text) → ((n : Text) → member n us ≡ false → f n ≡ false) → first f (further us vs) ≡ none
+unfolding first further
+further-none f us [] h = refl
+further-none f us (v ∷ vs) h = go (member v us) refl (further-none f us vs h)
+  where
+    go : (b : Bool) → member v us ≡ b → first f (further us vs) ≡ none → first f (cond b (further us vs) (v ∷ further us vs)) ≡ none
+    go true e ih = ih
+    go false e ih = rw (h v e) ih
+
+-- ---- callers
+module _ (ns : List Text) where
+  -- the first caller of the k first that passes
+  abbrev callerWhere : ℕ → (ℕ → Bool) → Option Caller
+  callerWhere k f = cond (eqb (setOf k f) 0) none (some (callerAt ns (firstPlace k f)))
+
+  -- none does
+  none-where : (k : ℕ) (f : ℕ → Bool) → ((i : ℕ) → f i ≡ false) → callerWhere k f ≡ none
+  none-where k f h = rw (set-none k f h)
+
+  -- one who is not logged in does
+  nobody-where : (k : ℕ) (f : ℕ → Bool) → f 0 ≡ true → callerWhere (suc k) f ≡ some nobody
+  unfolding setOf firstPlace
+  nobody-where k f e = rw (e, ne-eqb (1 + 2 * setOf k (λ i. f (suc i))) 0 (λ q. omega arith))
+
+  -- he does not: the first with a role that does
+  one-where : (k : ℕ) (f : ℕ → Bool) → f 0 ≡ false
+      → callerWhere (suc k) f ≡ Option·map one (cond (eqb (setOf k (λ i. f (suc i))) 0) none (some (getD ns (firstPlace k (λ i. f (suc i))) [])))
+  unfolding setOf firstPlace
+  one-where k f e = rw (e, doubled (setOf k (λ i. f (suc i)))) (go (eqb (setOf k (λ i. f (suc i))) 0))
+    where
+      go : (b : Bool) → cond b none (some (one (getD ns (firstPlace k (λ i. f (suc i))) []))) ≡ Option·map one (cond b none (some (getD ns (firstPlace k (λ i. f (suc i))) [])))
+      go true = refl
+      go false = refl
+
+  -- the callers of the one that are none of the other's
+  callers-fresh : (a b : Combined) → bitAnd (seenBy ns a) (everyone - seenBy ns b) ≡ setOf 64 (λ i. grantsTo ns a i && not (grantsTo ns b i))
+  callers-fresh a b = ap (bitAnd (seenBy ns a)) (set-not 64 (grantsTo ns b)) ∙ set-and 64 (grantsTo ns a) (λ i. not (grantsTo ns b i))
+
+  -- who admits no role grants as little as who is closed
+  none-granted : (i : ℕ) → grantsTo ns (union []) i ≡ false
+  unfolding member
+  none-granted zero = refl
+  none-granted (suc i) = and-false (ltb i (length ns))
+
+  -- ---- the first of them is the caller to show, where new admits no further names
+  module _ (few : length ns ≤ 32) (more : List Text) where
+    -- of two unions
+    union-shown : (rs os : List Text) → ((n : Text) → member n rs ≡ true → member n ns ≡ true)
+        → callerWhere 64 (λ i. grantsTo ns (union rs) i && not (grantsTo ns (union os) i)) ≡ shownCaller (union rs) (union os) (joined ns more)
+    unfolding shownCaller freshRole joined
+    union-shown rs os named =
+        one-where 63 (λ i. grantsTo ns (union rs) i && not (grantsTo ns (union os) i)) refl
+        ∙ ap (Option·map one) (place-name (λ n. member n rs) (λ n. member n os) ns (further ns more) 63 (omega arith)
+        (further-none (λ n. member n rs && not (member n os)) ns more (λ n e. rw (not-so (member n rs) (λ q. never (member n ns) (named n q) e)))))
+
+    -- whatever they come to
+    by-kinds : (a b : Combined) → ((rs : List Text) → a ≡ union rs → (n : Text) → member n rs ≡ true → member n ns ≡ true)
+        → callerWhere 64 (λ i. grantsTo ns a i && not (grantsTo ns b i)) ≡ shownCaller a b (joined ns more)
+    unfolding shownCaller
+    by-kinds combinedClosed b named = none-where 64 _ (λ i. refl)
+    by-kinds combinedOpen combinedClosed named = nobody-where 63 _ refl
+    by-kinds combinedOpen combinedOpen named = none-where 64 _ (λ i. refl)
+    by-kinds combinedOpen (union os) named = nobody-where 63 _ refl
+    by-kinds (union rs) combinedOpen named = none-where 64 _ (λ i. and-false (grantsTo ns (union rs) i))
+    by-kinds (union rs) combinedClosed named =
+        ap (callerWhere 64) (fun-ext (λ i. ap (λ (b : Bool). grantsTo ns (union rs) i && not b) (sym (none-granted i)))) ∙ union-shown rs [] (named rs refl)
+    by-kinds (union rs) (union os) named = union-shown rs os (named rs refl)
+
+    -- so it is where the trailing zeros end
+    pub caller-by-sets : (a b : Combined) → ((rs : List Text) → a ≡ union rs → (n : Text) → member n rs ≡ true → member n ns ≡ true)
+        → (x : ℕ) → x ≡ bitAnd (seenBy ns a) (everyone - seenBy ns b)
+        → cond (eqb x 0) none (some (callerAt ns (trailingZeros 64 x))) ≡ shownCaller a b (joined ns more)
+    caller-by-sets a b named x e =
+        ap (λ (y : ℕ). cond (eqb y 0) none (some (callerAt ns (trailingZeros 64 y)))) (e ∙ callers-fresh a b)
+        ∙ ap (λ (i : ℕ). cond (eqb (setOf 64 f) 0) none (some (callerAt ns i))) (trailing-set 64 f)
+        ∙ by-kinds a b named
+      where
+        f : ℕ → Bool
+        f i = grantsTo ns a i && not (grantsTo ns b i)

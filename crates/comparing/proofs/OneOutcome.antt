@@ -6,7 +6,8 @@ use lib.ListN.{length, drop}
 use Rattle.reading.specs.Texts.{Text}
 use Rattle.reading.specs.Outcomes.{workSize, workAfter}
 use Rattle.reading.proofs.Unique.{work-same}
-use Rattle.comparing.specs.Outcomes.{Comparison, compared, comparisonOf, answerAfter, CompareOutcome}
+use Rattle.comparing.specs.declared.answers.Comparison.{Comparison}
+use Rattle.comparing.specs.Outcomes.{compared, comparisonOf, answerAfter, CompareOutcome}
 
 -- in all components
 pub compare-unique : (old new answer : Text) (work : List ℕ) (c c′ : Comparison) (a a′ : Text) (w w′ : List ℕ)

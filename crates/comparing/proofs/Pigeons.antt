@@ -65,6 +65,15 @@ module _ (test : ℕ → Bool) where
     pub from : n ≤ r
     pub before : (i : ℕ) → n ≤ i → i < r → test i ≡ false
 
+  -- it is the only one of the kind
+  pub first-one : (n r : ℕ) → First 0 r → test n ≡ true → ((i : ℕ) → i < n → test i ≡ false) → n ≡ r
+  first-one n r F e none = go (decLt n r) (decLt r n)
+    where
+      go : Dec (n < r) → Dec (r < n) → n ≡ r
+      go (yes h) d = absurd (never (test n) e (F .before n (omega arith) h))
+      go (no g) (yes h) = absurd (never (test r) (F .passes) (none r h))
+      go (no g) (no h) = omega arith
+
   -- where one of the k from n on passes, the first is found
   pub first-from : (k n j : ℕ) → n ≤ j → j < n + k → test j ≡ true → First n (firstFrom test k n) × (firstFrom test k n ≤ j)
   unfolding firstFrom

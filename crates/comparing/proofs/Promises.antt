@@ -15,7 +15,8 @@ use Rattle.reading.specs.Outcomes.{workSize}
 use Rattle.deciding.specs.Requests.{Request}
 use Rattle.comparing.specs.Verdicts.{verdict}
 use Rattle.comparing.specs.Answers.{lineOf, answerOf}
-use Rattle.comparing.specs.Outcomes.{Comparison, Compared, refusedFor, answered, answerSize, compared, comparisonFor, answerFor, comparisonOf, answerAfter, CompareOutcome}
+use Rattle.comparing.specs.declared.answers.Comparison.{Comparison}
+use Rattle.comparing.specs.Outcomes.{Compared, refusedFor, answered, answerSize, compared, comparisonFor, answerFor, comparisonOf, answerAfter, CompareOutcome}
 use Rattle.comparing.proofs.NoWider.{Shown, wider, GrantsNoMore, no-wider-by-calls, answer-short}
 
 -- ---- the two forms of the answer

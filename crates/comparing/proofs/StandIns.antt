@@ -60,13 +60,41 @@ extension-in e (List·Memᴰ·head {x = y} {xs = ys} q) k =
     Memᴰ·append-left {s = extensionIn (kindOf y)} (extensions ys) (rw l (List·Memᴰ·head refl))
 extension-in e (List·Memᴰ·tail {x = y} m) k = Memᴰ·append-right (extensionIn (kindOf y)) (extension-in e m k)
 
--- ---- the patterns of one rank that match
-abbrev at : ℕ → Text → Text → Bool
-at r path t = eqb (rank (kindOf t)) r && matches t path
-
+-- ---- a pattern text on a path below p whose last segment g starts with the filler
 no-tail : (p g : Text) → p ++ slash ∷ g ≡ slash ∷ [] → g ≡ []
 no-tail p [] e = refl
 no-tail p (y ∷ ys) e = absurd (omega (arith, length-append p (slash ∷ y ∷ ys), ap length e))
+
+module _ (f t : Text) (fresh : occurs f t ≡ false) (p g : Text) (s : startsWith f g ≡ true) (h : has slash g ≡ false) where
+  inside : occurs f (p ++ slash ∷ g) ≡ true
+  inside = occurs-later f p (slash ∷ g) (occurs-later f (slash ∷ []) g (occurs-start f g s))
+
+  -- no exact one matches
+  pub exact-fails : (q : Text) → Shape t (exact q) → same q (p ++ slash ∷ g) ≡ false
+  unfolding occurs
+  exact-fails q r = not-so (same q (p ++ slash ∷ g)) (λ w. other r (same-equal q (p ++ slash ∷ g) w))
+    where
+      other : Shape t (exact q) → q ≡ p ++ slash ∷ g → ⊥
+      other (inl r) e =
+          let n : g ≡ [] = no-tail p g (sym e ∙ r .1) in
+          let k : startsWith f [] ≡ true = rw n at s in
+          let z : occurs f [] ≡ false = rw (r .0) at fresh in
+          never (startsWith f []) k z
+      other (inr r) e = never (occurs f t) (rw (r .0, e) inside) fresh
+
+  -- a prefix matches where it is above p
+  pub prefix-above : (q : Text) → Shape t (prefix q) → isUnder q (p ++ slash ∷ g) ≡ isUnder q p
+  prefix-above q r =
+      agree (isUnder q (p ++ slash ∷ g)) (isUnder q p)
+      (λ w. ⊎-elim
+      (λ (u : isUnder q p ≡ true). u)
+      (λ (u : q ≡ p ++ slash ∷ g). absurd (never (occurs f q) (rw u inside) (absent-first f q (slash ∷ star ∷ []) (rw (r .0) at fresh))))
+      (under-segment q p g h w))
+      (λ w. under-trans q p (p ++ slash ∷ g) w (under-slash p g))
+
+-- ---- the patterns of one rank that match
+abbrev at : ℕ → Text → Text → Bool
+at r path t = eqb (rank (kindOf t)) r && matches t path
 
 module _ (f : Text) (ts : List Text) (F : Filler f ts) (path : Text) (no-exact : NonePass (at 4 path) ts) where
   -- p is above path, and no listed prefix above path is longer
@@ -80,29 +108,14 @@ module _ (f : Text) (ts : List Text) (F : Filler f ts) (path : Text) (no-exact :
   stands : (p g : Text) → Stem p → startsWith f g ≡ true → has slash g ≡ false
       → ((t e : Text) → List·Memᴰ t ts → kindOf t ≡ extension e → hasExtension e (p ++ slash ∷ g) ≡ hasExtension e path)
       → Alike ts (p ++ slash ∷ g) path
-  unfolding kindMatches occurs
+  unfolding kindMatches
   stands p g S s h endings t m = go (kindOf t) refl (shape t) (no-exact t m)
     where
-      inside : occurs f (p ++ slash ∷ g) ≡ true
-      inside = occurs-later f p (slash ∷ g) (occurs-later f (slash ∷ []) g (occurs-start f g s))
-
-      other : (q : Text) → ((t ≡ []) × (q ≡ slash ∷ [])) ⊎ ((t ≡ q) × (rooted q)) → q ≡ p ++ slash ∷ g → ⊥
-      other q (inl r) e =
-          let n : g ≡ [] = no-tail p g (sym e ∙ r .1) in
-          let k : startsWith f [] ≡ true = rw n at s in
-          let z : occurs f [] ≡ false = rw (r .0) at (F .fresh t m) in
-          never (startsWith f []) k z
-      other q (inr r) e = never (occurs f t) (rw (r .0, e) inside) (F .fresh t m)
-
       go : (k : PatternKind) → kindOf t ≡ k → Shape t k → eqb (rank k) 4 && kindMatches k path ≡ false → kindMatches k (p ++ slash ∷ g) ≡ kindMatches k path
-      go (exact q) e r n = not-so (same q (p ++ slash ∷ g)) (λ w. other q r (same-equal q (p ++ slash ∷ g) w)) ∙ sym n
+      go (exact q) e r n = exact-fails f t (F .fresh t m) p g s h q r ∙ sym n
       go (prefix q) e r n =
-          agree (isUnder q (p ++ slash ∷ g)) (isUnder q path)
-          (λ w. ⊎-elim
-          (λ (u : isUnder q p ≡ true). under-trans q p path u (S .above))
-          (λ (u : q ≡ p ++ slash ∷ g). absurd (never (occurs f q) (rw u inside) (absent-first f q (slash ∷ star ∷ []) (rw (r .0) at (F .fresh t m)))))
-          (under-segment q p g h w))
-          (λ w. under-trans q p (p ++ slash ∷ g) (under-chain q p path w (S .above) (S .longest t q m e w)) (under-slash p g))
+          prefix-above f t (F .fresh t m) p g s h q r
+          ∙ agree (isUnder q p) (isUnder q path) (λ w. under-trans q p path w (S .above)) (λ w. under-chain q p path w (S .above) (S .longest t q m e w))
       go (extension d) e r n = endings t d m e
       go default e r n = refl
       go refused e r n = refl

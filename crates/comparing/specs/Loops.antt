@@ -1,15 +1,9 @@
 -- The verdict in the shape of a program: for each trial path, for each trial method, the caller by the roles that new admits and old does not.
 -- For the proofs alone, which show that it is Verdicts' verdict.
-use Prim.Native.Nat.{ℕ, zero, suc, _-_, _^_}
-use mathlib.Core.Bool.{Bool, not, _&&_}
+use mathlib.Core.Bool.{not, _&&_}
 use mathlib.Core.List.{List, [], _∷_}
 use mathlib.Core.Option.{Option, none, some, Option·map}
-use lib.ListN.{length, getD}
-use lib.Dec.{ltb}
-use lib.Bits.{bitAnd}
-use lib.Count.{trailingZeros}
 use Rattle.reading.specs.Texts.{Text, member, first}
-use Rattle.reading.specs.Sets.{setOf}
 use Rattle.reading.specs.Listings.{Listing}
 use Rattle.deciding.specs.Requests.{Caller, nobody, Request}
 use Rattle.deciding.specs.Decisions.{Combined, combinedOpen, combinedClosed, union, combinedFor}
@@ -29,22 +23,6 @@ firstSome f (x ∷ xs) = elim (f x) [ none ↦ firstSome f xs | some b ↦ some 
 unfoldable pub freshRole : List Text → List Text → List Text → Option Text
 unfolding first member
 freshRole new old ns = first (λ n. member n new && not (member n old)) ns
-
--- ---- the same by sets of roles: digit i is 1 where name i passes; there are 64 names at most
-unfoldable pub namesSet : (Text → Bool) → List Text → ℕ
-unfolding setOf
-namesSet f ns = setOf 64 (λ i. ltb i (length ns) && f (getD ns i []))
-
--- "trailing zeros of new minus old picks the role"
-unfoldable pub freshPlace : ℕ → ℕ → ℕ
-unfolding trailingZeros
-freshPlace new old = trailingZeros 64 (bitAnd new (2 ^ 64 - 1 - old))
-
--- the name at a place, or none
-unfoldable pub nameAt : List Text → ℕ → Option Text
-nameAt [] k = none
-nameAt (n ∷ ns) zero = some n
-nameAt (n ∷ ns) (suc k) = nameAt ns k
 
 -- ---- the caller to show, by what new and old come to, of the names in order
 unfoldable pub shownCaller : Combined → Combined → List Text → Option Caller

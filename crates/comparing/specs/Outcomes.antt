@@ -11,13 +11,7 @@ use Rattle.reading.specs.Listings.{listingOf}
 use Rattle.reading.specs.Outcomes.{isShort, workAfter}
 use Rattle.comparing.specs.Verdicts.{verdict}
 use Rattle.comparing.specs.Answers.{answerOf}
-
--- what is handed back: "its number, its side .. and its line", and the length of the answer
-pub record Comparison : Type 0 where
-  pub number : ℕ
-  pub side : ℕ
-  pub line : ℕ
-  pub length : ℕ
+use Rattle.comparing.specs.declared.answers.Comparison.{Comparison}
 
 -- ---- a refusal, with its number, side and line, or an answer's text
 pub data Compared : Type 0 where

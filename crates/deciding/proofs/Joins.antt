@@ -251,7 +251,7 @@ module _ (l : Listing) (P : Proper l) (t m : Text) where
       go false e A = rw (rule-past (l .declared) t m g (ruleAt l k) e) A
 
   -- all of them
-  agree-all : Agree l (joinedUpTo l t (indexOf m (l .methods)) (length (patternsOf l))) (gathered l t m)
+  pub agree-all : Agree l (joinedUpTo l t (indexOf m (l .methods)) (length (patternsOf l))) (gathered l t m)
   unfolding gathered
   agree-all = rw (line-count l) (rw take-length at (agree-up-to (length (rulesOf l)) (omega arith)))
 

@@ -5,6 +5,7 @@
 --   Takings    what a loop over the `pattern` lines gathers
 --   Strengths  the best match by a number for each pattern text
 --   Shorts     a listing's patterns are few and short
+--   Endings    the extension of a path, as the code seeks it
 --   Matchings  the code that matches, and that chooses the strongest
 --   Holders    the caller as the listing sees it
 --   Callings   the caller's names, as the code reads them
@@ -17,6 +18,7 @@ pub mod Cases
 pub mod Takings
 pub mod Strengths
 pub mod Shorts
+pub mod Endings
 pub mod Matchings
 pub mod Holders
 pub mod Callings

@@ -2,13 +2,12 @@
 use mathlib.Core.Path.{_≡_, refl, sym, ap, _∙_}
 use mathlib.Core.Bool.{Bool, true, false, not, cond, _&&_, _||_, and-true}
 use mathlib.Core.List.{List, [], _∷_, _++_}
-use Prim.Native.Nat.{ℕ, suc, _+_, _-_, _≤_, _<_}
+use Prim.Native.Nat.{ℕ, _+_, _-_, _≤_, _<_}
 use native.Mathlib.Omega.{arith}
-use native.Mathlib.Numerals.{add-one}
-use lib.ListN.{length, take, drop, getD, drop-of-length-le}
-use lib.Seq.{drop-cons, take-all, length-take-le}
+use lib.ListN.{length, take, drop, getD}
+use lib.Seq.{take-all, length-take-le}
 use lib.Dec.{ltb, eqb, eqb·suc-zero, eqb·suc-suc}
-use borrow.Author.Tests.{ltb-true, ltb-false, eq-eqb, ne-eqb, eqb-true, eqb-false, not-true, not-false}
+use borrow.Author.Tests.{ltb-true, ltb-false, eq-eqb, ne-eqb, eqb-true, eqb-false, not-false}
 use Rattle.reading.specs.Texts.{Text, bytes, slash, dot, same, has, startsWith, endsWith, part, run}
 use Rattle.reading.specs.Patterns.{PatternKind, exact, prefix, extension, default, refused, isExtension, kindOf}
 use Rattle.reading.specs.Listings.{listingOf}
@@ -18,31 +17,13 @@ use Rattle.reading.specs.declared.tables.Tally.{Tally}
 use Rattle.reading.proofs.Truths.{never, not-so}
 use Rattle.reading.proofs.Spans.{ends-short, from-on}
 use Rattle.reading.proofs.Namings.{starts-long}
-use Rattle.deciding.specs.Matching.{afterLastOr, afterLast, lastSegment, hasExtension, isUnder, kindMatches}
-use Rattle.deciding.specs.Strengths.{kindStrength, strength, rootedStrength, startLeading, lead, leading}
+use Rattle.deciding.specs.Matching.{afterLast, lastSegment, hasExtension, isUnder, kindMatches}
+use Rattle.deciding.specs.Strengths.{Ends, kindStrength, strength, rootedStrength, starredStrength, startLeading, lead, leading}
 use Rattle.deciding.specs.declared.decisions.Leading.{Leading}
+use Rattle.deciding.specs.declared.matching.Ending.{Ending}
 use Rattle.deciding.proofs.Strengths.{lead-past, lead-takes}
 use Rattle.deciding.proofs.Takings.{run-step}
 use Rattle.deciding.proofs.Shorts.{pattern-few, pattern-short}
-
--- ---- what follows the last b
-module _ (b : ℕ) (t : Text) (keep i : ℕ) (v : afterLast b t ≡ afterLastOr b (drop keep t) (drop i t)) where
-  -- one more is found
-  pub last-found : i < length t → b ≡ getD t i 0 → afterLast b t ≡ afterLastOr b (drop (i + 1) t) (drop (i + 1) t)
-  unfolding afterLastOr
-  last-found h e =
-      v ∙ rw (add-one i, drop-cons t i 0 h) (ap (λ (c : Bool). afterLastOr b (cond c (drop (suc i) t) (drop keep t)) (drop (suc i) t)) (eq-eqb b (getD t i 0) e))
-
-  -- another byte: on to the next
-  pub last-step : i < length t → (b ≡ getD t i 0 → ⊥) → afterLast b t ≡ afterLastOr b (drop keep t) (drop (i + 1) t)
-  unfolding afterLastOr
-  last-step h n =
-      v ∙ rw (add-one i, drop-cons t i 0 h) (ap (λ (c : Bool). afterLastOr b (cond c (drop (suc i) t) (drop keep t)) (drop (suc i) t)) (ne-eqb b (getD t i 0) n))
-
-  -- the text runs out
-  pub last-end : length t ≤ i → drop keep t ≡ afterLast b t
-  unfolding afterLastOr
-  last-end h = sym (v ∙ rw (drop-of-length-le t h))
 
 -- ---- P or below P
 -- it does not matter which number is compared with which
@@ -84,28 +65,6 @@ eqb-held a b e = sym (eq-eqb a b e)
 pub eqb-failed : (a b : ℕ) → (a ≡ b → ⊥) → false ≡ eqb a b
 eqb-failed a b n = sym (ne-eqb a b n)
 
--- ---- the extension
-module _ (e path : Text) (k : ℕ) (place : (drop k path ≡ afterLast slash path) × (k ≤ length path)) (r : Bool)
-    (found : r ≡ has dot (part k (length path) path)) where
-  segment : part k (length path) path ≡ lastSegment path
-  segment = from-on k path ∙ place .0
-
-  -- the last segment has no `.`
-  pub extension-none : not r ≡ true → false ≡ hasExtension e path
-  unfolding hasExtension
-  extension-none h = rw (← segment, ← found, not-true r h)
-
-  -- it has one: what follows the last is compared
-  pub extension-same : not r ≡ false → (d : ℕ) (seg : Text) → seg ≡ part k (length path) path
-      → (drop d seg ≡ afterLast dot seg) × (d ≤ length seg) → (s : Bool) → s ≡ same (part d (length seg) seg) e → s ≡ hasExtension e path
-  unfolding hasExtension
-  extension-same h d seg i w s j =
-      let z : seg ≡ lastSegment path = i ∙ segment in
-      let q : has dot (lastSegment path) ≡ true = ap (has dot) (sym segment) ∙ sym found ∙ not-false r h in
-      let p : same (part d (length seg) seg) e ≡ same (afterLast dot (lastSegment path)) e =
-      ap (λ (x : Text). same x e) (from-on d seg ∙ w .0 ∙ ap (afterLast dot) z) in
-      j ∙ p ∙ sym (ap (λ (b : Bool). b && same (afterLast dot (lastSegment path)) e) q)
-
 -- ---- the strength
 -- a text that ends with `/*` has two bytes
 pub ended-long : (t : Text) (r : Bool) → r ≡ endsWith (bytes "/*") t → r ≡ true → 2 ≤ length t
@@ -123,42 +82,61 @@ unfolding same
 empty-length [] = refl
 empty-length (x ∷ xs) = sym (eqb·suc-zero (length xs))
 
--- test by test, in the code's order
+-- test by test, in the code's order: first whether what follows the path's last `.` is what follows `*.`, then whether that is an extension
+pub starred-is : (t path : Text) (x : Ending) (z : ℕ) → Ends path x → z
+    ≡ cond (not (x .some)) 0
+    (cond (not (startsWith (bytes "*.") t)) 0
+    (cond (not (same (part (x .at) (length path) path) (part 2 (length t) t))) 0
+    (cond (isExtension (part 2 (length t) t)) 2 0)))
+    → z ≡ starredStrength t path
+unfolding starredStrength hasExtension
+starred-is t path x z v e =
+    e
+    ∙ rw (from-on 2 t, from-on (x .at) path, v .dotted, v .behind)
+    (go (has dot (lastSegment path)) (startsWith (bytes "*.") t) (same (afterLast dot (lastSegment path)) (drop 2 t)) (isExtension (drop 2 t)))
+  where
+    go : (a b c d : Bool) → _≡_ {A = ℕ} (cond (not a) 0 (cond (not b) 0 (cond (not c) 0 (cond d 2 0)))) (cond (b && d) (cond (a && c) 2 0) 0)
+    go true true true d = refl
+    go true true false true = refl
+    go true true false false = refl
+    go false true c true = refl
+    go false true c false = refl
+    go true false c d = refl
+    go false false c d = refl
+
+-- and of any text
 pub strength-is : (t path : Text) (z : ℕ) → z
     ≡ cond (eqb (length t) 0) (cond (same (bytes "/") path) 1000 0)
     (cond (same t (bytes "/")) 1
     (cond (startsWith (bytes "/") t) (rootedStrength t path)
-    (cond (not (startsWith (bytes "*.") t)) 0
-    (cond (not (isExtension (part 2 (length t) t))) 0
-    (cond (hasExtension (part 2 (length t) t) path) 2 0)))))
+    (starredStrength t path)))
     → z ≡ strength t path
-unfolding strength rootedStrength kindOf kindMatches
+unfolding strength rootedStrength starredStrength kindOf kindMatches
 strength-is t path z e =
     e
-    ∙ rw (← empty-length t, from-on 2 t)
-    (go (same t []) (same t (bytes "/")) (startsWith (bytes "/") t) (endsWith (bytes "/*") t) (startsWith (bytes "*.") t) (isExtension (drop 2 t)))
+    ∙ rw (← empty-length t)
+    (go (same t []) (same t (bytes "/")) (startsWith (bytes "/") t) (endsWith (bytes "/*") t) (startsWith (bytes "*.") t && isExtension (drop 2 t)))
   where
-    kind : (a b c d e f : Bool) → PatternKind
-    kind a b c d e f =
+    kind : (a b c d e : Bool) → PatternKind
+    kind a b c d e =
         cond a (exact (bytes "/"))
         (cond b default
         (cond c (cond d (prefix (take (length t - 2) t)) (exact t))
-        (cond (e && f) (extension (drop 2 t)) refused)))
+        (cond e (extension (drop 2 t)) refused)))
 
-    go : (a b c d e f : Bool)
+    go : (a b c d e : Bool)
         → cond a (cond (same (bytes "/") path) 1000 0)
         (cond b 1
         (cond c
         (cond d (cond (isUnder (take (length t - 2) t) path) (3 + length (take (length t - 2) t)) 0) (cond (same t path) 1000 0))
-        (cond (not e) 0 (cond (not f) 0 (cond (hasExtension (drop 2 t) path) 2 0)))))
-        ≡ cond (kindMatches (kind a b c d e f) path) (kindStrength (kind a b c d e f)) 0
-    go true b c d e f = refl
-    go false true c d e f = refl
-    go false false true true e f = refl
-    go false false true false e f = refl
-    go false false false d true true = refl
-    go false false false d true false = refl
-    go false false false d false f = refl
+        (cond e (cond (hasExtension (drop 2 t) path) 2 0) 0)))
+        ≡ cond (kindMatches (kind a b c d e) path) (kindStrength (kind a b c d e)) 0
+    go true b c d e = refl
+    go false true c d e = refl
+    go false false true true e = refl
+    go false false true false e = refl
+    go false false false d true = refl
+    go false false false d false = refl
 
 -- ---- the choice
 -- a text that is stronger leads

@@ -1,14 +1,16 @@
 -- The best match by a number for each pattern text, and by the number of its line: for the proofs alone, which show that it is Matching's.
-use Prim.Native.Nat.{ℕ, _+_, _-_}
-use mathlib.Core.Bool.{cond}
+use Prim.Native.Nat.{ℕ, _+_, _-_, _≤_}
+use mathlib.Core.Path.{_≡_}
+use mathlib.Core.Bool.{cond, _&&_}
 use mathlib.Core.List.{List}
 use mathlib.Core.Option.{Option, none, some}
-use lib.ListN.{length, take}
+use lib.ListN.{length, take, drop}
 use lib.Dec.{eqb, ltb}
-use Rattle.reading.specs.Texts.{Text, bytes, same, endsWith, run}
-use Rattle.reading.specs.Patterns.{PatternKind, exact, prefix, extension, default, refused, kindOf}
-use Rattle.deciding.specs.Matching.{isUnder, kindMatches, matches}
+use Rattle.reading.specs.Texts.{Text, bytes, dot, same, has, startsWith, endsWith, run}
+use Rattle.reading.specs.Patterns.{PatternKind, exact, prefix, extension, default, refused, isExtension, kindOf}
+use Rattle.deciding.specs.Matching.{afterLast, lastSegment, hasExtension, isUnder, kindMatches, matches}
 use Rattle.deciding.specs.declared.decisions.Leading.{Leading}
+use Rattle.deciding.specs.declared.matching.Ending.{Ending}
 
 -- the better kind has the greater number, the patterns' texts having 255 bytes at most
 abbrev pub kindStrength : PatternKind → ℕ
@@ -30,6 +32,17 @@ rootedStrength t path =
     cond (endsWith (bytes "/*") t)
     (cond (isUnder (take (length t - 2) t) path) (3 + length (take (length t - 2) t)) 0)
     (cond (same t path) 1000 0)
+
+-- the same for a text that is not empty and does not start with `/`
+unfoldable pub starredStrength : Text → Text → ℕ
+unfolding startsWith isExtension hasExtension
+starredStrength t path = cond (startsWith (bytes "*.") t && isExtension (drop 2 t)) (cond (hasExtension (drop 2 t) path) 2 0) 0
+
+-- x is how the path ends: whether its last segment has a `.`, and the place of what follows the last one
+pub record Ends (path : Text) (x : Ending) : Type 0 where
+  pub dotted : x .some ≡ has dot (lastSegment path)
+  pub behind : drop (x .at) path ≡ afterLast dot (lastSegment path)
+  pub within : x .at ≤ length path
 
 -- while the pattern texts are gone through: how many are, the line of the first of the strongest, and its strength, 0 where none matches
 abbrev pub startLeading : Leading

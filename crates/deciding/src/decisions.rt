@@ -6,11 +6,12 @@ ghost use lib.ListN.{length, getD};
 ghost use Rattle.reading.specs.Listings.{listingOf};
 ghost use Rattle.reading.specs.Tables.{Holds};
 ghost use Rattle.reading.specs.Views.{patternsOf};
-ghost use Rattle.deciding.specs.Strengths.{lead, leading};
+ghost use Rattle.deciding.specs.Strengths.{Ends, lead, leading};
 ghost use Rattle.deciding.specs.Joinings.{joinWith, isLineFor, joinedUpTo, joinedAnswer};
 use crate::answers::Answer;
 use crate::callers::Held;
 use crate::matching;
+use crate::matching::Ending;
 use reading::held;
 use reading::held::Access;
 use reading::tables::Tally;
@@ -23,16 +24,16 @@ pub struct Leading {
     pub most: u32,
 }
 
-// The choice with one pattern more.
-pub fn lead_with(x: Leading, p: &[u8], path: &[u8]) -> Leading
-    requires { ⌜ (x .seen < 1000) × (length (now p) ≤ 255) ⌝ }
+// The choice with one pattern more, for a path whose ending is e.
+pub fn lead_with(x: Leading, p: &[u8], path: &[u8], e: Ending) -> Leading
+    requires { ⌜ (x .seen < 1000) × ((length (now p) ≤ 255) × Ends (now path) e) ⌝ }
     ensures { λ r. ⌜ r ≡ lead (now (path .entry)) x (now (p .entry)) ⌝ }
 {
     let seen = x.seen;
     let at = x.at;
     let most = x.most;
     let next = seen + 1;
-    let strength = matching::strength_of(p, path);
+    let strength = matching::strength_of(p, path, e);
     if most < strength {
         return Leading {
             seen: next,
@@ -53,6 +54,7 @@ pub fn strongest(s: &[u8], w: &[u32], t: Tally, path: &[u8]) -> Leading
     ensures { λ r. ⌜ r ≡ leading (patternsOf (listingOf (now (s .entry)))) (now (path .entry)) ⌝ }
 {
     let n = held::pattern_count(s, w, t);
+    let e = matching::ending_of(path);
     let mut x = Leading {
         seen: 0,
         at: 0,
@@ -60,7 +62,7 @@ pub fn strongest(s: &[u8], w: &[u32], t: Tally, path: &[u8]) -> Leading
     };
     let mut k = 0;
     while k < n {
-        x = lead_with(x, held::pattern(s, w, t, k), path);
+        x = lead_with(x, held::pattern(s, w, t, k), path, e);
         k += 1;
     }
     x

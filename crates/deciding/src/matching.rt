@@ -1,11 +1,11 @@
 // Whether a pattern text matches a path, and how strongly.
 ghost use mathlib.Core.Path.{_≡_};
 ghost use Prim.Native.Nat.{_≤_};
-ghost use lib.ListN.{length, drop};
+ghost use lib.ListN.{length};
 ghost use Rattle.reading.specs.Bytes.{classTable};
-ghost use Rattle.deciding.specs.Matching.{afterLast, isUnder, hasExtension};
+ghost use Rattle.deciding.specs.Matching.{isUnder};
 ghost use Rattle.deciding.specs.Requests.{isPath};
-ghost use Rattle.deciding.specs.Strengths.{strength, rootedStrength};
+ghost use Rattle.deciding.specs.Strengths.{Ends, strength, rootedStrength, starredStrength};
 use reading::names;
 use reading::texts;
 
@@ -26,22 +26,34 @@ pub fn is_path(table: &[u8; 256], p: &[u8]) -> bool
     texts::starts_with(b"/", p)
 }
 
-// The place behind the last byte b of t, or 0 where it has none.
-pub fn after_last(b: u8, t: &[u8]) -> usize
-    ensures { λ r. ⌜ (drop r (now (t .entry)) ≡ afterLast b (now (t .entry))) × (r ≤ length (now (t .entry))) ⌝ }
+// How a path ends: whether its last segment has a '.', and the place of what follows the last one, or of the segment where it has none.
+pub struct Ending {
+    pub some: bool,
+    pub at: usize,
+}
+
+// The ending of a path, sought from its end.
+pub fn ending_of(path: &[u8]) -> Ending
+    ensures { λ r. ⌜ Ends (now (path .entry)) r ⌝ }
 {
-    let mut keep = 0;
-    let mut i = 0;
-    while i < t.len() {
-        let next = i + 1;
-        if b == t[i] {
-            keep = next;
-            i = next;
-        } else {
-            i = next;
+    let mut at = path.len();
+    while 0 < at {
+        let b = path[at - 1];
+        if b == 46 {
+            return Ending { some: true, at: at };
         }
+        if b == 47 {
+            return Ending {
+                some: false,
+                at: at,
+            };
+        }
+        at -= 1;
     }
-    keep
+    Ending {
+        some: false,
+        at: at,
+    }
 }
 
 // Whether the path is p, or starts with p followed by '/'.
@@ -56,19 +68,6 @@ pub fn is_under(p: &[u8], path: &[u8]) -> bool
         return true;
     }
     path[n] == 47
-}
-
-// Whether the last segment of the path has a '.', and e is what follows the last one.
-pub fn has_extension(e: &[u8], path: &[u8]) -> bool
-    ensures { λ r. ⌜ r ≡ hasExtension (now (e .entry)) (now (path .entry)) ⌝ }
-{
-    let k = after_last(47, path);
-    let segment = &path[k..];
-    if !texts::has_byte(46, segment) {
-        return false;
-    }
-    let d = after_last(46, segment);
-    texts::are_same(&segment[d..], e)
 }
 
 // How strongly a pattern text that starts with '/' and is longer matches the path.
@@ -89,10 +88,33 @@ pub fn rooted_strength(t: &[u8], path: &[u8]) -> u32
     0
 }
 
-// How strongly a pattern text matches the path: 0 not at all, 1 as the default, 2 by extension, 3 and more by a prefix, the longer
-// the stronger, 1,000 exactly.
-pub fn strength_of(t: &[u8], path: &[u8]) -> u32
-    requires { ⌜ length (now t) ≤ 255 ⌝ }
+// How strongly a pattern text that is not empty and does not start with '/' matches the path, whose ending is x.
+pub fn starred_strength(t: &[u8], path: &[u8], x: Ending) -> u32
+    requires { ⌜ Ends (now path) x ⌝ }
+    ensures { λ r. ⌜ r ≡ starredStrength (now (t .entry)) (now (path .entry)) ⌝ }
+{
+    let some = x.some;
+    let at = x.at;
+    if !some {
+        return 0;
+    }
+    if !texts::starts_with(b"*.", t) {
+        return 0;
+    }
+    let e = &t[2..];
+    if !texts::are_same(&path[at..], e) {
+        return 0;
+    }
+    if names::is_extension(e) {
+        return 2;
+    }
+    0
+}
+
+// How strongly a pattern text matches the path, whose ending is x: 0 not at all, 1 as the default, 2 by extension, 3 and more by a
+// prefix, the longer the stronger, 1,000 exactly.
+pub fn strength_of(t: &[u8], path: &[u8], x: Ending) -> u32
+    requires { ⌜ (length (now t) ≤ 255) × Ends (now path) x ⌝ }
     ensures { λ r. ⌜ r ≡ strength (now (t .entry)) (now (path .entry)) ⌝ }
 {
     if t.len() == 0 {
@@ -107,14 +129,5 @@ pub fn strength_of(t: &[u8], path: &[u8]) -> u32
     if texts::starts_with(b"/", t) {
         return rooted_strength(t, path);
     }
-    if !texts::starts_with(b"*.", t) {
-        return 0;
-    }
-    if !names::is_extension(&t[2..]) {
-        return 0;
-    }
-    if has_extension(&t[2..], path) {
-        return 2;
-    }
-    0
+    starred_strength(t, path, x)
 }

@@ -11,13 +11,16 @@ use Rattle.deciding.proofs.decisions.strongest.Statement.{statement}
 use Rattle.deciding.proofs.decisions.strongest.Tie as tie
 
 abbrev Inv-loop : tie.InvT-loop
-Inv-loop s w t path n x₀ k₀ x k = (x ≡ leading (take k (patternsOf (listingOf s))) path) × (x .seen ≡ k)
+Inv-loop s w t path n e x₀ k₀ x k = (x ≡ leading (take k (patternsOf (listingOf s))) path) × (x .seen ≡ k)
 
 abbrev μ-loop : tie.MeasureT-loop
-μ-loop s w t path n x₀ k₀ x k = n - k
+μ-loop s w t path n e x₀ k₀ x k = n - k
 
 pattern-count-requires : tie.Need-pattern-count-requires Inv-loop μ-loop
 pattern-count-requires c κs = search needs
+
+ending-of-requires : tie.Need-ending-of-requires Inv-loop μ-loop
+ending-of-requires c κs = search needs
 
 loop-holds : tie.Need-loop-holds Inv-loop μ-loop
 loop-holds c = search (needs, lead-none)
@@ -47,6 +50,7 @@ strongest-spec =
     Inv-loop
     μ-loop
     pattern-count-requires
+    ending-of-requires
     loop-holds
     pattern-requires
     lead-with-requires

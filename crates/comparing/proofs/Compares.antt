@@ -1,0 +1,200 @@
+-- The functions of the whole call: what each hands to the next is what the outcome speaks of.
+use mathlib.Core.Path.{_≡_, refl, sym, ap, subst, _∙_}
+use mathlib.Core.List.{List, [], _∷_, _++_}
+use Prim.Native.Nat.{ℕ, _+_, _-_, _*_, _≤_, _<_}
+use native.Mathlib.Omega.{arith}
+use lib.ListN.{length, take, drop, replicate, length-append, length-drop}
+use lib.Seq.{length-take-le, length-front, take-at, drop-at, take-take, take-add, drop-drop, drop-append-add, take-append-add}
+use borrow.Rule.Slice.PartMut.{putMid, postOf, post-is, same-len-mid}
+use borrow.Author.Tests.{lt-ltb, le-ltb}
+use Rattle.reading.specs.Texts.{Text}
+use Rattle.reading.specs.Listings.{Listing, listingOf}
+use Rattle.reading.specs.Outcomes.{zeroed, workAfter}
+use Rattle.reading.specs.Refusals.{numberOf, readingOf}
+use Rattle.reading.specs.Tables.{Holds, LoadOutcome}
+use Rattle.reading.specs.declared.answers.Fault.{Fault}
+use Rattle.reading.specs.declared.reader.Loaded.{Loaded}
+use Rattle.reading.specs.declared.reader.Loaded.the-variants.{Whole, Not}
+use Rattle.reading.specs.declared.tables.Tally.{Tally}
+use Rattle.comparing.specs.Fillers.{numbered, digits, firstNumber, fills, filler, isUnnamed, fillerMethod, fillerOf, fillerMethodOf}
+use Rattle.comparing.specs.Outcomes.{comparedBoth, comparedNew, comparedOld, compared, comparisonFor, answerFor, comparisonOf, answerAfter, CompareOutcome}
+use Rattle.comparing.specs.Sides.{SideOf, PairsOf, Ready}
+use Rattle.comparing.specs.Walks.{textsOf}
+use Rattle.comparing.specs.declared.answers.Comparison.{Comparison}
+use Rattle.comparing.proofs.FillersExist.{filler-short}
+
+-- ---- the fillers
+module _ (new old : Listing) (t : Text) where
+  -- the filler is short
+  pub filler-near : t ≡ fillerOf new old → length t ≤ 6
+  unfolding fillerOf
+  filler-near e = rw e (filler-short (textsOf new old))
+
+  -- it is `q` and its number
+  pub filler-here : (k : ℕ) → t ≡ numbered (113 ∷ []) k → k ≡ firstNumber (fills (textsOf new old)) → t ≡ fillerOf new old
+  unfolding fillerOf filler
+  filler-here k e f = e ∙ ap (numbered (113 ∷ [])) f
+
+  -- the filler method is `Q` and its number
+  pub method-here : (k : ℕ) → t ≡ numbered (81 ∷ []) k → k ≡ firstNumber (isUnnamed (new .methods ++ old .methods)) → t ≡ fillerMethodOf new old
+  unfolding fillerMethodOf fillerMethod
+  method-here k e f = e ∙ ap (numbered (81 ∷ [])) f
+
+-- what stands in the first n of 8 bytes
+pub eight-lent : (n : ℕ) (t : Text) → n ≤ 6 → length t ≡ 8 → n ≡ length (take n t)
+eight-lent n t h e = sym (length-take-le n t (omega arith))
+
+-- ---- the tables
+pub all-ready : (new old : Listing) (sn so pairs : List ℕ) (count : ℕ) → SideOf (new .roles) new sn → SideOf (new .roles) old so → PairsOf new old pairs count → Ready new old sn so pairs count
+all-ready new old sn so pairs count a b c = record { new-side = a; old-side = b; methods = c }
+
+-- ---- the table that holds both listings: n numbers, then n
+module _ (n : ℕ) (w : List ℕ) (room : 2 * n ≤ length w) where
+  pub first-length : n ≡ length (take n w)
+  first-length = sym (length-take-le n w (omega arith))
+
+  pub second-holds : (s : Text) (t : Tally) → Holds s t (take n (drop n w)) → Holds s t (take (2 * n - n) (drop n w))
+  second-holds s t H = let e : 2 * n - n ≡ n = omega arith in rw e H
+
+-- the second n of the first 2n
+second-of : (n : ℕ) (w : List ℕ) → 2 * n ≤ length w → drop n (take (2 * n) w) ≡ take n (drop n w)
+second-of n w h =
+    let e : 2 * n ≡ n + n = omega arith in
+    rw (e, take-add n n w) (drop-at (take n w) (take n (drop n w)) n (length-take-le n w (omega arith)))
+
+-- where the first 2n stay, both stay
+module _ (n : ℕ) (w w′ : List ℕ) (room : 4 * n ≤ length w) (long : length w′ ≡ length w) (kept : take (2 * n) w′ ≡ take (2 * n) w) where
+  pub first-kept : (s : Text) (t : Tally) → Holds s t (take n w) → Holds s t (take n w′)
+  first-kept s t H =
+      subst (Holds s t) (sym (take-take n (2 * n) w (omega arith)) ∙ ap (take n) (sym kept) ∙ take-take n (2 * n) w′ (omega arith)) H
+
+  pub second-kept : (s : Text) (t : Tally) → Holds s t (take n (drop n w)) → Holds s t (take n (drop n w′))
+  second-kept s t H = subst (Holds s t) (sym (second-of n w (omega arith)) ∙ ap (drop n) (sym kept) ∙ second-of n w′ (omega arith)) H
+
+-- ---- what is compared once both are read
+module _ (old new : Text) (lo ln : Loaded) (wo wn : List ℕ) (O : LoadOutcome old lo wo) (N : LoadOutcome new ln wn) where
+  -- the old listing is refused
+  module _ (f : Fault) (line : ℕ) (e : lo ≡ Not f line) where
+    pub old-refused : (k : ℕ) → k ≡ numberOf f → (x : Comparison) → x ≡ record { number = k; side = 1; line = line; length = 0 } → x ≡ comparisonFor (comparedOld old new (readingOf old))
+    old-refused k p x q = rw (← O .answer, e, ← p) q
+
+    pub old-keeps : (answer : Text) → answer ≡ answerFor (comparedOld old new (readingOf old)) answer
+    old-keeps answer = rw (← O .answer, e)
+
+  module _ (to : Tally) (whole : lo ≡ Whole to) where
+    -- the new one is
+    module _ (f : Fault) (line : ℕ) (e : ln ≡ Not f line) where
+      pub new-refused : (k : ℕ) → k ≡ numberOf f → (x : Comparison) → x ≡ record { number = k; side = 2; line = line; length = 0 } → x ≡ comparisonFor (comparedOld old new (readingOf old))
+      new-refused k p x q = rw (← O .answer, whole, ← N .answer, e, ← p) q
+
+      pub new-keeps : (answer : Text) → answer ≡ answerFor (comparedOld old new (readingOf old)) answer
+      new-keeps answer = rw (← O .answer, whole, ← N .answer, e)
+
+    -- neither is
+    module _ (tn : Tally) (e : ln ≡ Whole tn) where
+      pub both-handed : (x : Comparison) → x ≡ comparisonFor (comparedBoth old new) → x ≡ comparisonFor (comparedOld old new (readingOf old))
+      both-handed x p = rw (← O .answer, whole, ← N .answer, e) p
+
+      pub both-written : (answer answer′ : Text) → answer′ ≡ answerFor (comparedBoth old new) answer → answer′ ≡ answerFor (comparedOld old new (readingOf old)) answer
+      both-written answer answer′ p = rw (← O .answer, whole, ← N .answer, e) p
+
+-- ---- the work table
+-- the first n of 4n numbers
+module _ (n : ℕ) (w : List ℕ) (room : 4 * n ≤ length w) where
+  pub first-lent : n ≡ length (take n w)
+  first-lent = sym (length-take-le n w (omega arith))
+
+  pub first-room : n ≡ 1024 → 720 ≤ length (take n w)
+  first-room e = let l = length-take-le n w (omega arith) in omega arith
+
+-- a is read into the first n numbers of w, then b into the next n
+module _ (n : ℕ) (w a b : List ℕ) (room : 4 * n ≤ length w) (long-a : length a ≡ length (take n w)) where
+  size-a : length a ≡ n
+  size-a = long-a ∙ length-take-le n w (omega arith)
+
+  -- w with a in it
+  abbrev one : List ℕ
+  one = a ++ drop n w
+
+  one-length : length one ≡ length w
+  one-length = length-front w a n long-a
+
+  part-length : length (take (2 * n - n) (drop n one)) ≡ n
+  part-length =
+      let l = one-length in
+      let k = length-drop n one in
+      let e : 2 * n - n ≡ n = omega arith in
+      rw e (length-take-le n (drop n one) (omega arith))
+
+  pub second-room : n ≡ 1024 → 720 ≤ length (take (2 * n - n) (drop n one))
+  second-room e = let l = part-length in omega arith
+
+  module _ (long-b : length b ≡ length (take (2 * n - n) (drop n one))) where
+    size-b : length b ≡ n
+    size-b = long-b ∙ part-length
+
+    -- w with both
+    abbrev two : List ℕ
+    two = putMid n (2 * n - n) one b
+
+    start : two ≡ a ++ (b ++ drop (2 * n) one)
+    start =
+        ap (λ (l : List ℕ). l ++ (b ++ postOf n (2 * n - n) one)) (take-at a (drop n w) n size-a)
+        ∙ ap (λ (l : List ℕ). a ++ (b ++ l)) (post-is n (2 * n) one (omega arith))
+
+    pub two-length : length two ≡ length w
+    two-length = same-len-mid n (2 * n - n) one b long-b ∙ one-length
+
+    pub two-room : 4 * n ≤ length two
+    two-room = let l = two-length in omega arith
+
+    -- what they hold is held still
+    pub old-loaded : (s : Text) (l : Loaded) → LoadOutcome s l a → LoadOutcome s l (take n two)
+    old-loaded s l L = subst (LoadOutcome s l) (sym (ap (take n) start ∙ take-at a (b ++ drop (2 * n) one) n size-a)) L
+
+    pub new-loaded : (s : Text) (l : Loaded) → LoadOutcome s l b → LoadOutcome s l (take n (drop n two))
+    new-loaded s l L =
+        subst (LoadOutcome s l)
+        (sym (ap (λ (x : List ℕ). take n (drop n x)) start ∙ ap (take n) (drop-at a (b ++ drop (2 * n) one) n size-a) ∙ take-at b (drop (2 * n) one) n size-b)) L
+
+    -- the numbers behind are as before
+    rest : drop (4 * n) two ≡ drop (4 * n) w
+    rest =
+        let p : 4 * n ≡ length a + (length b + 2 * n) = let u = size-a in let v = size-b in omega arith in
+        let q : 2 * n + 2 * n ≡ length a + 3 * n = let u = size-a in omega arith in
+        let r : n + 3 * n ≡ 4 * n = omega arith in
+        ap (λ (k : ℕ). drop k two) p
+        ∙ ap (drop (length a + (length b + 2 * n))) start
+        ∙ drop-append-add a (b ++ drop (2 * n) one) (length b + 2 * n)
+        ∙ drop-append-add b (drop (2 * n) one) (2 * n)
+        ∙ drop-drop (2 * n) (2 * n) one
+        ∙ ap (λ (k : ℕ). drop k one) q
+        ∙ drop-append-add a (drop n w) (3 * n)
+        ∙ drop-drop (3 * n) n w
+        ∙ ap (λ (k : ℕ). drop k w) r
+
+    -- the first 4n are zero, whatever they became
+    pub both-zeroed : (w₃ w₄ : List ℕ) → drop (4 * n) w₃ ≡ drop (4 * n) two → w₄ ≡ zeroed (4 * n) w₃ → w₄ ≡ zeroed (4 * n) w
+    unfolding zeroed
+    both-zeroed w₃ w₄ k z = z ∙ ap (λ (l : List ℕ). replicate (4 * n) 0 ++ l) (k ∙ rest)
+
+-- ---- the whole call
+module _ (old new answer : Text) (w : List ℕ) (x : Comparison) where
+  -- the work table is too short
+  pub compare-short : length w < 4096 → x ≡ record { number = 1; side = 0; line = 0; length = 0 } → CompareOutcome old new answer w x answer w
+  unfolding comparisonOf answerAfter compared workAfter
+  compare-short h e = record { handed = rw (lt-ltb _ _ h) e; answered = rw (lt-ltb _ _ h); worked = rw (lt-ltb _ _ h) }
+
+  module _ (long : 4096 ≤ length w) (w′ : List ℕ) where
+    -- the answer buffer is
+    pub compare-small : length answer < 1024 → x ≡ record { number = 14; side = 0; line = 0; length = 0 } → w′ ≡ zeroed 4096 w → CompareOutcome old new answer w x answer w′
+    unfolding comparisonOf answerAfter compared workAfter
+    compare-small h e z = record { handed = rw (le-ltb _ _ long, lt-ltb _ _ h) e; answered = rw (le-ltb _ _ long, lt-ltb _ _ h); worked = rw (le-ltb _ _ long) z }
+
+    -- neither is
+    pub compare-long : (answer′ : Text) → 1024 ≤ length answer
+        → (x ≡ comparisonFor (comparedOld old new (readingOf old))) × ((answer′ ≡ answerFor (comparedOld old new (readingOf old)) answer) × (w′ ≡ zeroed 4096 w))
+        → CompareOutcome old new answer w x answer′ w′
+    unfolding comparisonOf answerAfter compared workAfter
+    compare-long answer′ h p =
+        record { handed = rw (le-ltb _ _ long, le-ltb _ _ h) (p .0); answered = rw (le-ltb _ _ long, le-ltb _ _ h) (p .1 .0); worked = rw (le-ltb _ _ long) (p .1 .1) }
