@@ -438,8 +438,10 @@ static void edit_tree(struct rng *r, const struct taste *t, struct tree *x)
             c->allow[below(r, c->allows)] = c->allow[c->allows - 1], c->allows--;
         break;
     case 7:
-        if (!c->open && c->allows > 0)
-            c->allow[below(r, c->allows)] = chance(r, 30) ? STAR : a_role(r, t);
+        if (!c->open && c->allows > 0) {
+            unsigned k = chance(r, 30) ? STAR : a_role(r, t);
+            c->allow[below(r, c->allows)] = k;
+        }
         break;
     case 8:
         if (c->colls > 1)
@@ -756,7 +758,7 @@ static void limit(unsigned which, unsigned past, unsigned turn, struct big *b)
     case 3: b->constraints = b->collections = b->patterns = 64 + past; break;
     case 4: b->collections = b->patterns = 128 + past; break;
     case 5: b->patterns = 128 + past; b->repeats = turn % 5; break;
-    case 6: b->method_lines = 512 + past; break;
+    case 6: b->method_lines = 512 + past; b->collections = 3 + turn / 2 % 2; break;
     case 7: b->pattern_len = 255 + past; break;
     case 8: b->role_len = 64 + past; break;
     case 9: b->method_len = 24 + past; break;
@@ -797,6 +799,88 @@ static int some_field(struct rng *r, const struct out *o, const char *start, str
         i = stop + 1;
     }
     return found > 0;
+}
+
+/* The place behind the last line that starts with the text given; 0: none. */
+static size_t behind_last(const struct out *o, const char *start)
+{
+    size_t n = strlen(start), place = 0;
+    for (size_t i = 0; i < o->length;) {
+        size_t stop = i;
+        while (stop < o->length && o->at[stop] != 10)
+            stop++;
+        if (stop < o->length && stop - i >= n && memcmp(o->at + i, start, n) == 0)
+            place = stop + 1;
+        i = stop + 1;
+    }
+    return place;
+}
+
+/* A further record, new, bad or there before, in its place or in a wrong one.
+ * In a full listing it passes a most-number and breaks another rule too. */
+static void put_further(struct rng *r, struct out *o, const char *record)
+{
+    static const char *const places[] = { "collection", "constraint", "role", "pattern", "end" };
+    uint8_t line[512];
+    char start[16];
+    struct out l = { line, 0, sizeof line };
+    struct bytes b;
+    puts_(&l, record);
+    if (strcmp(record, "collection") != 0) {
+        unsigned how = below(r, 3);
+        int is_pattern = strcmp(record, "pattern") == 0;
+        int is_method = strcmp(record, "method") == 0 || strcmp(record, "omit") == 0;
+        snprintf(start, sizeof start, "%s\t", record);
+        puts_(&l, "\t");
+        if (how == 0 && some_field(r, o, start, &b))
+            putb(&l, b);
+        else if (how == 1)
+            putb(&l, is_pattern ? BAD_PATTERNS[below(r, COUNT(BAD_PATTERNS))]
+                     : is_method ? BAD_METHODS[below(r, COUNT(BAD_METHODS))]
+                                 : BAD_ROLES[below(r, COUNT(BAD_ROLES))]);
+        else
+            puts_(&l, strcmp(record, "constraint") == 0 ? "auth" : is_pattern ? "/new" : "new");
+    }
+    puts_(&l, chance(r, 5) ? "\t\n" : "\n");
+    const char *where = chance(r, 60) ? record : places[below(r, COUNT(places))];
+    size_t place = behind_last(o, where);
+    if (strcmp(where, "end") == 0 && place >= 4)
+        place -= 4;
+    splice(o, place, 0, l.at, l.length);
+}
+
+/* The records of limit `which`. */
+static const char *record_of(struct rng *r, unsigned which)
+{
+    static const char *const records[] = {
+        "role", "allow", "method", "constraint", "collection", "pattern", "omit"
+    };
+    if (which == 2 || which == 6)
+        return records[chance(r, 50) ? 2 : 6];
+    return records[which < COUNT(records) ? which : below(r, COUNT(records))];
+}
+
+/* A role declared again, most often among the declared ones. */
+static void declare_again(struct rng *r, struct out *o)
+{
+    uint8_t line[512];
+    struct out l = { line, 0, sizeof line };
+    struct bytes b;
+    size_t n;
+    if (!some_field(r, o, "role\t", &b))
+        return;
+    puts_(&l, "role\t");
+    putb(&l, b);
+    puts_(&l, "\n");
+    splice(o, chance(r, 80) ? behind_last(o, "role\t") : a_line(r, o, &n), 0, l.at, l.length);
+}
+
+/* Bytes behind the end, to about the most of a listing. */
+static void pad(struct rng *r, struct out *o)
+{
+    size_t want = 24573 + below(r, 8);
+    while (o->length < want)
+        put1(o, chance(r, 90) ? 'x' : ODD_BYTES[below(r, COUNT(ODD_BYTES))]);
 }
 
 static void make_path(struct rng *r, const struct taste *t, const struct out *listing,
@@ -938,8 +1022,9 @@ static void make_caller(struct rng *r, const struct taste *t, const struct out *
             putb(o, ROLES[chance(r, 60) ? t->role[below(r, t->roles)] : below(r, COUNT(ROLES))]);
         put1(o, 10);
     }
-    if (chance(r, 5))
-        switch (below(r, 5)) {
+    if (chance(r, 6))
+        switch (below(r, 6)) {
+        case 5: puts_(o, "*\n"); break;
         case 0:
             putb(o, BAD_ROLES[below(r, COUNT(BAD_ROLES))]);
             put1(o, 10);
@@ -978,7 +1063,7 @@ static void make_buffers(struct rng *r, struct generated *g)
     if (g->kind == GENERATED_COMPARE) {
         if (k < 20)
             g->answer_len = 1025 + below(r, 600);
-        else if (k < 23)
+        else if (k < 25)
             g->answer_len = 1023 - (chance(r, 50) ? 0 : below(r, 1024));
     }
 }
@@ -1139,8 +1224,8 @@ void generate_case(uint64_t seed, struct generated *g)
             make_many(r, 0, style, &o);
             if (chance(r, 40))
                 rng.state = again, below(r, 100), below(r, 4);
-            make_many(r, below(r, 4) == 0 ? below(r, 40) : 0,
-                      chance(r, 90) ? style : below(r, 4), &n);
+            style = chance(r, 90) ? style : below(r, 4);
+            make_many(r, below(r, 4) == 0 ? below(r, 40) : 0, style, &n);
         } else if (k < 260) {
             make_all_roles(r, &o);
             make_all_roles(r, &n);
@@ -1153,13 +1238,19 @@ void generate_case(uint64_t seed, struct generated *g)
                 make_filled(r, &t, &x);
             print_tree(&x, &n);
         } else if (k < 360) {
-            unsigned which = below(r, LIMITS - 1);
-            limit(which, chance(r, 30), below(r, 1000), &b);
+            unsigned which = below(r, LIMITS - 1), turn = below(r, 1000);
+            limit(which, chance(r, 30), turn, &b);
             o.length = generate_big(&b, o.at, o.room);
-            if (chance(r, 50))
-                limit(chance(r, 70) ? which : below(r, LIMITS - 1), chance(r, 30),
-                      below(r, 1000), &b);
+            if (chance(r, 50)) {
+                turn = below(r, 1000);
+                unsigned past = chance(r, 30);
+                limit(chance(r, 70) ? which : below(r, LIMITS - 1), past, turn, &b);
+            }
             n.length = generate_big(&b, n.at, n.room);
+            if (chance(r, 30)) {
+                const char *record = record_of(r, which);
+                put_further(r, chance(r, 50) ? &o : &n, record);
+            }
         } else if (k < 361) {
             limit(LIMITS - 1, 0, below(r, 1000), &b);
             o.length = generate_big(&b, o.at, o.room);
@@ -1194,10 +1285,13 @@ void generate_case(uint64_t seed, struct generated *g)
             n.length = length;
         }
     } else {
-        if (k < 80) {
-            limit(below(r, LIMITS), chance(r, 40), below(r, 1000), &b);
+        if (k < 90) {
+            unsigned which = below(r, LIMITS), past = chance(r, 40);
+            limit(which, past, below(r, 1000), &b);
             b.shift = chance(r, 20) ? below(r, 10) : 0;
             o.length = generate_big(&b, o.at, o.room);
+            if (!past && chance(r, 60))
+                put_further(r, &o, record_of(r, which));
         } else if (k < 120) {
             make_many(r, 0, below(r, 4), &o);
         } else if (k < 140) {
@@ -1210,9 +1304,10 @@ void generate_case(uint64_t seed, struct generated *g)
             for (unsigned e = 1 + below(r, 3); e > 0; e--)
                 damage(r, &o);
     }
-    if (chance(r, 1))
-        while (o.length < 24570 + below(r, 12))
-            put1(&o, chance(r, 90) ? 'x' : ODD_BYTES[below(r, COUNT(ODD_BYTES))]);
+    if (chance(r, 4))
+        declare_again(r, g->kind == GENERATED_COMPARE && chance(r, 50) ? &n : &o);
+    if (chance(r, 3))
+        pad(r, g->kind == GENERATED_COMPARE && chance(r, 50) ? &n : &o);
     g->listing_len = o.length;
     g->new_len = n.length;
     if (g->kind == GENERATED_DECIDE) {
