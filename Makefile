@@ -1,5 +1,8 @@
 # make            the archive, the command and the test programs
 # make check      the project's own tests, without the prover's
+# make install    header, archive, pkg-config file, command, man page and completion, below DESTDIR and PREFIX; make uninstall
+# make sharp      wrong variants of the second implementation, each to be told apart: docs/SHARPNESS.md; some minutes
+# make gateway    the gateway example; make check-gateway tests it alone
 # make soak       the comparison with the second implementation on SOAK cases of a fresh seed
 # make bench      counted instructions and stack, as bench/RESULTS.md has them
 # make clean
@@ -7,14 +10,18 @@ X86 = tools/x86
 WARN = -std=c11 -Wall -Wextra -Werror
 SEED ?= $(shell date +%s)
 SOAK ?= 3000000
+PREFIX ?= /usr/local
+VERSION = $(shell sed -n 's/.*BUDQUARRY_VERSION "\(.*\)"/\1/p' include/budquarry.h)
+CRATES = reading deciding comparing
+COMMAND = command/budquarry.c command/words.c
 
 all: build/budquarry build/agree build/stack build/calls
 
 # The proved archive: the exported calls of each crate. rt proves before it builds.
-build/libbudquarry.a: $(shell find crates/reading crates/deciding -name '*.rt' -o -name '*.antt') crates.txt
+build/libbudquarry.a: $(shell find $(CRATES:%=crates/%) -name '*.rt' -o -name '*.antt') crates.txt
 	mkdir -p build/objects
-	for crate in reading deciding; do rt staticlib $$crate >build/$$crate.log 2>&1 || { tail -n 20 build/$$crate.log; exit 1; }; done
-	cd build/objects && rm -f * && for crate in reading deciding; do ../../$(X86) ar x ../../target/staticlib/lib$$crate.a; done
+	for crate in $(CRATES); do rt staticlib $$crate >build/$$crate.log 2>&1 || { tail -n 20 build/$$crate.log; exit 1; }; done
+	cd build/objects && rm -f * && for crate in $(CRATES); do ../../$(X86) ar x ../../target/staticlib/lib$$crate.a || exit 1; done
 	rm -f $@ && $(X86) ar rcs $@ build/objects/*
 
 build/second.o: second/second.c second/second.h
@@ -31,21 +38,63 @@ build/edges: second/edges.c build/second.o build/yardstick.o
 	$(X86) cc $(WARN) -O2 -static $^ -o $@
 build/decide_edges: second/decide_edges.c build/second.o
 	$(X86) cc $(WARN) -O2 -static $^ -o $@
-build/budquarry: command/budquarry.c include/budquarry.h build/libbudquarry.a
-	$(X86) cc $(WARN) -O2 -static command/budquarry.c build/libbudquarry.a -o $@
-build/agree: tests/agree.c include/budquarry.h build/second.o build/generate.o build/libbudquarry.a
-	$(X86) cc $(WARN) -O2 -static tests/agree.c build/second.o build/generate.o build/libbudquarry.a -o $@
+build/budquarry: $(COMMAND) command/words.h include/budquarry.h build/libbudquarry.a
+	$(X86) cc $(WARN) -O2 -static $(COMMAND) build/libbudquarry.a -o $@
+# the same with the sanitizers, on x86-64 alone; `tests/command build/sanitized` runs it
+build/sanitized: $(COMMAND) command/words.h include/budquarry.h build/libbudquarry.a
+	$(X86) cc $(WARN) -g -fsanitize=address,undefined -fno-sanitize-recover=all $(COMMAND) build/libbudquarry.a -o $@
+build/agree: tests/agree.c include/budquarry.h build/second.o build/yardstick.o build/generate.o build/libbudquarry.a
+	$(X86) cc $(WARN) -O2 -static tests/agree.c build/second.o build/yardstick.o build/generate.o build/libbudquarry.a -o $@
+build/second_agree: second/agree.c build/second.o build/yardstick.o build/generate.o
+	$(X86) cc $(WARN) -O2 -static $^ -o $@
+build/properties: tests/properties.c build/second.o build/generate.o
+	$(X86) cc $(WARN) -O2 -static $^ -o $@
+
+# The wrong variants: second.c with an edit put in, its three calls renamed.
+WRONG = $(patsubst second/wrong/%.edit,%,$(wildcard second/wrong/*.edit))
+build/wrong/%.o: second/wrong/%.edit second/wrong/apply second/second.c second/second.h
+	mkdir -p build/wrong
+	second/wrong/apply $< second/second.c >build/wrong/$*.c
+	$(X86) cc $(WARN) -Wno-unused -O2 -Isecond -Dsecond_read=$*_read -Dsecond_decide=$*_decide -Dsecond_compare=$*_compare -c build/wrong/$*.c -o $@
+build/wrong/list.h: $(wildcard second/wrong/*.edit)
+	mkdir -p build/wrong
+	for name in $(WRONG); do echo "WRONG($$name)"; done >$@
+build/sharp: tests/sharp.c build/wrong/list.h $(WRONG:%=build/wrong/%.o) build/second.o build/generate.o
+	$(X86) cc $(WARN) -O2 -static tests/sharp.c $(WRONG:%=build/wrong/%.o) build/second.o build/generate.o -o $@
+
 build/stack: bench/stack.c bench/full.h include/budquarry.h build/libbudquarry.a
 	$(X86) cc $(WARN) -O2 -static bench/stack.c build/libbudquarry.a -o $@
 build/calls: bench/calls.c bench/full.h include/budquarry.h build/yardstick.o build/libbudquarry.a
 	$(X86) cc $(WARN) -O2 -static bench/calls.c build/yardstick.o build/libbudquarry.a -o $@
 
-check: build/budquarry build/agree build/stack build/edges build/decide_edges
+# Linked to Debian's libmicrohttpd, so not static. The checked one stops at a bad access, and at the end at a leak; it needs x86-64 itself.
+CHECKED = $(if $(filter x86_64,$(shell uname -m)),build/gateway_checked)
+build/gateway: gateway/gateway.c include/budquarry.h build/libbudquarry.a
+	$(X86) library microhttpd microhttpd.h libmicrohttpd-dev
+	$(X86) cc $(WARN) -O2 gateway/gateway.c build/libbudquarry.a -lmicrohttpd -pthread -o $@
+build/gateway_checked: build/gateway
+	$(X86) cc $(WARN) -g -O1 -fsanitize=address,undefined -fno-sanitize-recover=all gateway/gateway.c build/libbudquarry.a -lmicrohttpd -pthread -o $@
+build/gateway_client: tests/gateway_client.c include/budquarry.h build/libbudquarry.a
+	$(X86) cc $(WARN) -O2 -static tests/gateway_client.c build/libbudquarry.a -o $@
+
+gateway: build/gateway
+check-gateway: build/gateway $(CHECKED) build/gateway_client build/budquarry
+	tests/gateway build/gateway $(CHECKED)
+
+check: build/budquarry build/agree build/second_agree build/properties build/stack build/edges build/decide_edges
 	tests/command
+	tests/install
 	tests/stored
 	$(X86) run build/agree 1 100000
 	$(X86) run build/agree $(SEED) 20000
+	$(X86) run build/second_agree 0 1 large >build/second_agree.out || { cat build/second_agree.out; exit 1; }
+	$(X86) run build/properties 1 20000
+	$(X86) run build/properties $(SEED) 4000
 	$(X86) run build/stack
+	$(MAKE) --no-print-directory check-gateway
+
+sharp: build/sharp
+	tests/sharp
 
 soak: build/agree
 	$(X86) run build/agree $(SEED) $(SOAK)
@@ -53,7 +102,22 @@ soak: build/agree
 bench: build/calls build/stack
 	bench/run
 
+ROOT = $(DESTDIR)$(PREFIX)
+install: build/budquarry
+	sed -e 's|@PREFIX@|$(PREFIX)|' -e 's|@VERSION@|$(VERSION)|' budquarry.pc.in >build/budquarry.pc
+	install -D -m 644 include/budquarry.h "$(ROOT)/include/budquarry.h"
+	install -D -m 644 build/libbudquarry.a "$(ROOT)/lib/libbudquarry.a"
+	install -D -m 644 build/budquarry.pc "$(ROOT)/lib/pkgconfig/budquarry.pc"
+	install -D -m 755 build/budquarry "$(ROOT)/bin/budquarry"
+	install -D -m 644 man/budquarry.1 "$(ROOT)/share/man/man1/budquarry.1"
+	install -D -m 644 completion/budquarry.bash "$(ROOT)/share/bash-completion/completions/budquarry"
+	install -D -m 644 completion/_budquarry "$(ROOT)/share/zsh/site-functions/_budquarry"
+
+uninstall:
+	cd "$(ROOT)" && rm -f include/budquarry.h lib/libbudquarry.a lib/pkgconfig/budquarry.pc bin/budquarry share/man/man1/budquarry.1 \
+		share/bash-completion/completions/budquarry share/zsh/site-functions/_budquarry
+
 clean:
 	rm -rf build
 
-.PHONY: all check soak bench clean
+.PHONY: all check sharp gateway check-gateway soak bench install uninstall clean

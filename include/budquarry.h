@@ -1,11 +1,26 @@
-/* budquarry.h: access rules of one web application, read, decided and compared. See README.md.
+/* budquarry.h: access rules of one web application, read, decided and compared. This is the library's manual; README.md says what it is for.
  *
- * No call allocates, keeps anything between calls, or needs a check by its caller: every listing, request and buffer gets a definite
- * answer. Calls from several threads are safe where their buffers are separate. A lent text is a pointer and a length in bytes, the work table a
- * pointer and a length in numbers; null with length 0 is fine. The listing is only read. The buffers of one call must not overlap.
+ * Link with libbudquarry.a (x86-64). It needs memset and memcpy and nothing else: `cc gateway.c $(pkg-config --cflags --libs budquarry)`.
+ * examples/link.c is a whole program. May this caller write the clock offset?
+ *
+ *     static uint32_t work[BUDQUARRY_WORK];
+ *     struct budquarry_decision d = budquarry_decide(listing, listing_len, (const uint8_t *)"/clock/offset", 13, (const uint8_t *)"PUT", 3,
+ *                                                    1, (const uint8_t *)"assessor\n", 9, work, BUDQUARRY_WORK);
+ *     if (d.number) ..refused: the listing or the request is bad, see below..
+ *     else if (d.answer == BUDQUARRY_OPEN || d.answer == BUDQUARRY_BY_ROLE) ..granted..
+ *
+ * Every listing, request and buffer gets a definite answer: no call needs a check by its caller. No call allocates, calls back, prints or keeps
+ * anything between calls, and there is no global state: calls from several threads are safe where the buffers that they write to (work tables, answer
+ * buffers) are separate.
+ *
+ * Buffers are the caller's, lent for the time of the call. A text is a pointer and a length in bytes, with no NUL at its end; the work table is a
+ * pointer and a length in numbers. Null with length 0 is fine. Texts that are only read (const) may be one and the same or overlap; the work table and
+ * the answer buffer overlap nothing.
  *
  * The work table is scratch: of at least BUDQUARRY_WORK numbers, whatever they are. After a call the first BUDQUARRY_WORK are zero and the
  * rest as before; with refusal 1 none changes.
+ *
+ * Stack of one call: bench/RESULTS.md has what was measured; 16 KiB are enough for each.
  */
 #ifndef BUDQUARRY_H
 #define BUDQUARRY_H
@@ -13,17 +28,21 @@
 #include <stddef.h>
 #include <stdint.h>
 
+#define BUDQUARRY_VERSION "1.0"
+
 #ifdef __cplusplus
 extern "C" {
 #endif
 
 enum {
-    BUDQUARRY_WORK = 4096,    /* numbers in the work table */
+    BUDQUARRY_WORK = 4096,    /* least numbers in the work table */
+    BUDQUARRY_ANSWER = 1024,  /* least bytes in the answer buffer */
     BUDQUARRY_LISTING = 24576 /* most bytes of a listing */
 };
 
 /* Refusals: number, side and line; all three are 0 where nothing is refused. The first that applies, in this order, is given.
  *    1  work table below 4,096 numbers                                             side 0, line 0
+ *   14  answer buffer below 1,024 bytes (comparing)                                side 0, line 0
  *    2  listing over 24,576 bytes                                                  line 0
  *    3  the first line isn't exactly `constraints<tab>1`, or lacks its byte 10
  *    4  unknown record name, wrong number of fields, or no byte 10
@@ -33,16 +52,18 @@ enum {
  *    9  role declared twice
  *    8  more than the most: 64 constraints, 128 collections, 128 patterns, 512 method and omit lines, 32 roles, 31 methods
  *   10  no `end` (at the line after the last), or bytes after it (at the next line)
- *   11  bad path: not 1 to 1,024 text bytes that start with `/`                    side 0, line 0
- *   12  bad method: not 1 to 24 token bytes                                        side 0, line 0
- *   13  bad caller                                                                 side 0, line 0
- * The side of 2 to 10 is 1. Lines count from 1 and go top down; within a line the order is 4, 5, 6, 7, 9, 8.
+ *   11  bad path: not 1 to 1,024 text bytes that start with `/` (deciding)         side 0, line 0
+ *   12  bad method: not 1 to 24 token bytes (deciding)                             side 0, line 0
+ *   13  bad caller (deciding): a name that isn't 1 to 64 text bytes, or with a space first or last, or `*`; over 32 names; a last name that
+ *       no byte 10 ends; names though not logged in; login above 1                 side 0, line 0
+ * The side of 2 to 10 is 1 for the only or the old listing, 2 for the new one; all of the old listing's come before the new one's. Lines
+ * count from 1 and go top down; within a line the order is 4, 5, 6, 7, 9, 8. Text bytes are 32 to 126 and 128 to 255, token bytes those of RFC 9110.
  */
 struct budquarry_report {
     uint32_t number, side, line;
 };
 
-/* Reads a listing: accepted, or refused. */
+/* Reads a listing: accepted (number 0), or refused. */
 struct budquarry_report budquarry_read(const uint8_t *listing, size_t listing_len, uint32_t *work, size_t work_len);
 
 /* The answers to a request; the first two are grants. No answer is 0, and a refusal's answer is 0: a caller who forgets to look at number can't
@@ -64,6 +85,26 @@ struct budquarry_decision {
 struct budquarry_decision budquarry_decide(const uint8_t *listing, size_t listing_len, const uint8_t *path, size_t path_len,
                                            const uint8_t *method, size_t method_len, uint32_t login, const uint8_t *roles, size_t roles_len,
                                            uint32_t *work, size_t work_len);
+
+struct budquarry_comparison {
+    uint32_t number, side, line, length;
+};
+
+enum { BUDQUARRY_NO_WIDER = 17 }; /* the length of the answer `verdict<tab>no wider` and of no other */
+
+/* Compares two listings: does the new one grant any request at all that the old one denies? The answer is text in the first length bytes of the
+ * answer buffer, each line ended by byte 10, no NUL; the bytes past it stay as they were. It is the one line
+ *     verdict<tab>no wider
+ * or four lines that show such a request, the first in 01's order:
+ *     verdict<tab>wider
+ *     path<tab>PATH
+ *     method<tab>METHOD
+ *     caller<tab>none                  not logged in;  or  caller<tab>role<tab>NAME, logged in with that one role
+ * A METHOD `Q0` (`Q1`..) that neither listing names stands for every method that neither names; a `q0` (`q1`..) in PATH that is inside no pattern
+ * of either stands for any text there that neither writes out. No wider exactly when length is BUDQUARRY_NO_WIDER. With a refusal length is 0 and the
+ * whole answer buffer as before: a caller who forgets to look at number can't read a refusal as a verdict. */
+struct budquarry_comparison budquarry_compare(const uint8_t *old_listing, size_t old_len, const uint8_t *new_listing, size_t new_len,
+                                              uint8_t *answer, size_t answer_len, uint32_t *work, size_t work_len);
 
 #ifdef __cplusplus
 }
