@@ -23,7 +23,7 @@ pub fn put(out: &mut [u8], at: usize, t: &[u8]) -> usize
 
 // Puts the last k decimal digits of n at a place.
 pub fn put_digits(out: &mut [u8], at: usize, n: usize, k: usize) -> usize
-    requires { ⌜ (at + k ≤ length (now out)) × (k ≤ 5) ⌝ }
+    requires { ⌜ (at + k ≤ length (now out)) × (k ≤ 10) ⌝ }
     ensures place { λ r. ⌜ r ≡ at + length (digits k n) ⌝ }
     ensures bytes { λ _. ⌜ now (out .exit) ≡ spliced at (digits k n) (now (out .entry)) ⌝ }
 {

@@ -1,0 +1,5 @@
+-- The laws that the proofs cite:
+--   Pieces  the line of a refusal, put piece by piece
+--   Prints  what a call of comparing hands back and leaves, and the text that is printed of it
+pub mod Pieces
+pub mod Prints

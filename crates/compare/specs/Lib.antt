@@ -1,0 +1,3 @@
+-- What the contracts of this program cite:
+--   Printed  the text that is printed of two listings
+pub mod Printed

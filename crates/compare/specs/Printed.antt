@@ -1,0 +1,26 @@
+-- The text that is printed of an old and a new listing: the answer's, or "on a refusal [..] one line, `refused⇥NUMBER⇥SIDE⇥LINE`".
+use Prim.Native.Nat.{ℕ}
+use mathlib.Core.List.{[], _∷_}
+use Rattle.reading.specs.Texts.{Text, bytes}
+use Rattle.reading.specs.Refusals.{readingOf}
+use Rattle.comparing.specs.Answers.{lineOf}
+use Rattle.comparing.specs.Fillers.{digits}
+use Rattle.comparing.specs.Outcomes.{Compared, refusedFor, answered, comparedOld}
+
+-- a 32-bit number has ten decimal digits at most
+abbrev pub decimal : ℕ → Text
+decimal n = digits 10 n
+
+unfoldable pub refusalLine : ℕ → ℕ → ℕ → Text
+unfolding lineOf digits
+refusalLine number side line = lineOf (bytes "refused" ∷ decimal number ∷ decimal side ∷ decimal line ∷ [])
+
+unfoldable pub printedFor : Compared → Text
+unfolding refusalLine
+printedFor (refusedFor number side line) = refusalLine number side line
+printedFor (answered t) = t
+
+-- the program lends a work table and an answer buffer that are large enough, so that 1 and 14 are not given
+unfoldable pub printedOf : Text → Text → Text
+unfolding printedFor readingOf
+printedOf old new = printedFor (comparedOld old new (readingOf old))
