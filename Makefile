@@ -3,8 +3,9 @@
 # make install    header, archive, pkg-config file, command, man page and completion, below DESTDIR and PREFIX; make uninstall
 # make sharp      wrong variants of the second implementation, each to be told apart: docs/SHARPNESS.md; some minutes
 # make gateway    the gateway example; make check-gateway tests it alone
+# make programs   the proved compare program on the cases of tests/compare
 # make soak       the comparison with the second implementation on SOAK cases of a fresh seed
-# make bench      counted instructions and stack, as bench/RESULTS.md has them
+# make bench      counted instructions and stack, as bench/RESULTS.md has them; make growth draws bench/growth.svg alone
 # make clean
 X86 = tools/x86
 WARN = -std=c11 -Wall -Wextra -Werror
@@ -12,17 +13,16 @@ SEED ?= $(shell date +%s)
 SOAK ?= 3000000
 PREFIX ?= /usr/local
 VERSION = $(shell sed -n 's/.*BUDQUARRY_VERSION "\(.*\)"/\1/p' include/budquarry.h)
-CRATES = reading deciding comparing
+CRATES = reading deciding comparing library
 COMMAND = command/budquarry.c command/words.c
 
 all: build/budquarry build/agree build/stack build/calls
 
-# The proved archive: the exported calls of each crate. rt proves before it builds.
+# The proved archive. rt proves before it builds.
 build/libbudquarry.a: $(shell find $(CRATES:%=crates/%) -name '*.rt' -o -name '*.antt') crates.txt
-	mkdir -p build/objects
-	for crate in $(CRATES); do rt staticlib $$crate >build/$$crate.log 2>&1 || { tail -n 20 build/$$crate.log; exit 1; }; done
-	cd build/objects && rm -f * && for crate in $(CRATES); do ../../$(X86) ar x ../../target/staticlib/lib$$crate.a || exit 1; done
-	rm -f $@ && $(X86) ar rcs $@ build/objects/*
+	mkdir -p build
+	rt staticlib library >build/library.log 2>&1 || { tail -n 20 build/library.log; exit 1; }
+	cp target/staticlib/liblibrary.a $@
 
 build/second.o: second/second.c second/second.h
 	mkdir -p build
@@ -37,6 +37,8 @@ build/generate.o: second/generate.c second/generate.h
 build/edges: second/edges.c build/second.o build/yardstick.o
 	$(X86) cc $(WARN) -O2 -static $^ -o $@
 build/decide_edges: second/decide_edges.c build/second.o
+	$(X86) cc $(WARN) -O2 -static $^ -o $@
+build/compare_runs: second/compare_runs.c build/second.o
 	$(X86) cc $(WARN) -O2 -static $^ -o $@
 build/budquarry: $(COMMAND) command/words.h include/budquarry.h build/libbudquarry.a
 	$(X86) cc $(WARN) -O2 -static $(COMMAND) build/libbudquarry.a -o $@
@@ -62,10 +64,17 @@ build/wrong/list.h: $(wildcard second/wrong/*.edit)
 build/sharp: tests/sharp.c build/wrong/list.h $(WRONG:%=build/wrong/%.o) build/second.o build/generate.o
 	$(X86) cc $(WARN) -O2 -static tests/sharp.c $(WRONG:%=build/wrong/%.o) build/second.o build/generate.o -o $@
 
-build/stack: bench/stack.c bench/full.h include/budquarry.h build/libbudquarry.a
-	$(X86) cc $(WARN) -O2 -static bench/stack.c build/libbudquarry.a -o $@
-build/calls: bench/calls.c bench/full.h include/budquarry.h build/yardstick.o build/libbudquarry.a
-	$(X86) cc $(WARN) -O2 -static bench/calls.c build/yardstick.o build/libbudquarry.a -o $@
+# the yardstick that walks through all trial paths, with and without vectors, its three calls renamed
+build/walk.o build/scalar.o: second/yardstick.c second/yardstick.h
+	mkdir -p build
+	$(X86) cc $(WARN) -O3 $(if $(findstring scalar,$@),-fno-tree-vectorize) -DYARDSTICK_WALK \
+		$(foreach name,read decide compare,-Dyardstick_$(name)=$(basename $(@F))_$(name)) -c $< -o $@
+YARDSTICKS = build/yardstick.o build/walk.o build/scalar.o
+INPUTS = bench/inputs.h bench/full.h include/budquarry.h
+build/stack: bench/stack.c $(INPUTS) build/generate.o build/libbudquarry.a
+	$(X86) cc $(WARN) -O2 -static bench/stack.c build/generate.o build/libbudquarry.a -o $@
+build/calls: bench/calls.c bench/grown.h $(INPUTS) build/generate.o $(YARDSTICKS) build/libbudquarry.a
+	$(X86) cc $(WARN) -O2 -static bench/calls.c build/generate.o $(YARDSTICKS) build/libbudquarry.a -o $@
 
 # Linked to Debian's libmicrohttpd, so not static. The checked one stops at a bad access, and at the end at a leak; it needs x86-64 itself.
 CHECKED = $(if $(filter x86_64,$(shell uname -m)),build/gateway_checked)
@@ -92,6 +101,12 @@ check: build/budquarry build/agree build/second_agree build/properties build/sta
 	$(X86) run build/properties $(SEED) 4000
 	$(X86) run build/stack
 	$(MAKE) --no-print-directory check-gateway
+	$(MAKE) --no-print-directory programs
+
+# rt proves the program before it builds it.
+programs: build/compare_runs
+	rt check compare >build/compare.log 2>&1 || { tail -n 20 build/compare.log; exit 1; }
+	tests/programs
 
 sharp: build/sharp
 	tests/sharp
@@ -101,6 +116,8 @@ soak: build/agree
 
 bench: build/calls build/stack
 	bench/run
+growth: build/calls
+	bench/growth
 
 ROOT = $(DESTDIR)$(PREFIX)
 install: build/budquarry
@@ -120,4 +137,4 @@ uninstall:
 clean:
 	rm -rf build
 
-.PHONY: all check sharp gateway check-gateway soak bench install uninstall clean
+.PHONY: all check programs sharp gateway check-gateway soak bench growth install uninstall clean
