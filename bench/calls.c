@@ -1,38 +1,108 @@
-/* calls WHAT WHO TIMES: one call TIMES times, for counting instructions; WHO is proved or plain (the yardstick in C). */
+/* calls WHAT WHO TIMES [SIZE]: one call TIMES times, for counting instructions. WHAT is a call and an input: read-L, compare-large2. WHO is proved,
+ * plain (the yardstick in C), walk (the yardstick that walks through all trial paths) or scalar (the same without vectors). Prints what the last call
+ * answered; with SIZE, for the inputs that grow, first how large it is. */
 #include <stdint.h>
 #include <stdio.h>
 #include <stdlib.h>
 #include <string.h>
 #include "../include/budquarry.h"
 #include "../second/yardstick.h"
-#include "full.h"
+#include "grown.h"
+#include "inputs.h"
 
-static const char small[] =
-    "constraints\t1\nrole\tadjuster\nrole\tassessor\nrole\towner\nconstraint\tauth\ncollection\npattern\t/*\nmethod\tDELETE\nconstraint\tauth\n"
-    "allow\tassessor\ncollection\npattern\t/clock/*\nomit\tGET\nconstraint\tauth\nallow\tadjuster\ncollection\npattern\t/clock/*\nmethod\tPUT\n"
-    "constraint\topen\ncollection\npattern\t*.csv\nconstraint\tauth\nallow\t*\ncollection\npattern\t/clock/offset\nmethod\tGET\nend\n";
+/* yardstick.c with YARDSTICK_WALK */
+typedef struct yardstick_comparison compare(const uint8_t *, size_t, const uint8_t *, size_t, uint8_t *, size_t, uint32_t *, size_t);
+compare walk_compare, scalar_compare;
 
 static uint32_t work[BUDQUARRY_WORK];
+static uint8_t answer[BUDQUARRY_ANSWER], old_room[GENERATED_LISTING], new_room[GENERATED_LISTING];
+static struct generated large;
+static const uint8_t *old, *new;
+static size_t old_len, new_len;
+static const char *path = "/p127/some/path.csv", *method = "METHOD30", *names = "role31\nrole07\n";
 
-static const uint8_t path[] = "/p127/some/path.csv", method[] = "METHOD30", names[] = "role31\nrole07\n";
-
-static uint32_t proved(int decide, const uint8_t *listing, size_t n) {
-    if (!decide) return budquarry_read(listing, n, work, BUDQUARRY_WORK).number;
-    return budquarry_decide(listing, n, path, sizeof path - 1, method, sizeof method - 1, 1, names, sizeof names - 1, work, BUDQUARRY_WORK).number;
+static void give(const void *o, size_t o_len, const void *n, size_t n_len) {
+    old = o;
+    old_len = o_len;
+    new = n;
+    new_len = n_len;
 }
 
-static uint32_t plain(int decide, const uint8_t *listing, size_t n) {
-    if (!decide) return yardstick_read(listing, n, work, BUDQUARRY_WORK).number;
-    return yardstick_decide(listing, n, path, sizeof path - 1, method, sizeof method - 1, 1, names, sizeof names - 1, work, BUDQUARRY_WORK).number;
+/* A path below the full listing's last prefix. */
+static const char *full_path(void) {
+    static char room[BUDQUARRY_ANSWER];
+    const char *last = NULL, *at = (const char *)full_room;
+    while ((at = strstr(at, "\npattern\t")) != NULL) last = at += 9;
+    size_t n = strcspn(last, "*");
+    memcpy(room, last, n);
+    strcpy(room + n, "path.csv");
+    return room;
+}
+
+/* The input after the call's name; gives how large one that grows is. */
+static unsigned long choose(const char *what, unsigned size) {
+    if (!strcmp(what, "L")) give(small, sizeof small - 1, small, sizeof small - 1);
+    if (!strcmp(what, "12")) give(old_12, sizeof old_12 - 1, new_12, sizeof new_12 - 1);
+    if (!strcmp(what, "long")) give(full_room, FULL + 1, full_room, FULL + 1);
+    if (!strcmp(what, "full")) {
+        give(full_listing(), FULL, full_room, FULL);
+        path = full_path();
+    }
+    if (!strncmp(what, "large", 5)) {
+        generate_large((size_t)atoi(what + 5), &large);
+        give(large.listing, large.listing_len, large.new_listing, large.new_len);
+        path = "/n/n/p2cdefg_abcdefg_abcdefg/x.e1";
+        method = "M4";
+        names = "role1\nrole2\n";
+    }
+    if (!strcmp(what, "bytes")) {
+        give(old_room, grown_bytes(old_room, size), NULL, 0);
+        return old_len;
+    }
+    if (!strcmp(what, "patterns")) {
+        give(old_room, grown_patterns(old_room, size), NULL, 0);
+        path = "/clock/offsets/of/nothing";
+        return size;
+    }
+    if (!strcmp(what, "paths")) {
+        give(old_room, grown_side(old_room, size, 0), new_room, grown_side(new_room, size, 1));
+        return grown_paths(size);
+    }
+    return 0;
+}
+
+/* One call; gives its number and its answer, or the answer's length. */
+static uint64_t call(char which, const char *who) {
+    size_t p = strlen(path), m = strlen(method), r = strlen(names);
+    if (!strcmp(who, "proved")) {
+        if (which == 'r') return (uint64_t)budquarry_read(old, old_len, work, BUDQUARRY_WORK).number << 32;
+        if (which == 'd') {
+            struct budquarry_decision d = budquarry_decide(old, old_len, (const uint8_t *)path, p, (const uint8_t *)method, m, 1,
+                                                           (const uint8_t *)names, r, work, BUDQUARRY_WORK);
+            return (uint64_t)d.number << 32 | d.answer;
+        }
+        struct budquarry_comparison c = budquarry_compare(old, old_len, new, new_len, answer, sizeof answer, work, BUDQUARRY_WORK);
+        return (uint64_t)c.number << 32 | c.length;
+    }
+    if (which == 'r') return (uint64_t)yardstick_read(old, old_len, work, BUDQUARRY_WORK).number << 32;
+    if (which == 'd') {
+        struct yardstick_decision d = yardstick_decide(old, old_len, (const uint8_t *)path, p, (const uint8_t *)method, m, 1,
+                                                       (const uint8_t *)names, r, work, BUDQUARRY_WORK);
+        return (uint64_t)d.number << 32 | d.answer;
+    }
+    compare *yardstick = !strcmp(who, "walk") ? walk_compare : !strcmp(who, "scalar") ? scalar_compare : yardstick_compare;
+    struct yardstick_comparison c = yardstick(old, old_len, new, new_len, answer, sizeof answer, work, BUDQUARRY_WORK);
+    return (uint64_t)c.number << 32 | c.length;
 }
 
 int main(int argc, char **argv) {
-    if (argc < 4 || !full_listing()) return 2;
-    int is_plain = !strcmp(argv[2], "plain"), is_small = strstr(argv[1], "small") != NULL, decide = !strncmp(argv[1], "decide", 6);
-    const uint8_t *listing = is_small ? (const uint8_t *)small : full_room;
-    size_t n = is_small ? sizeof small - 1 : FULL;
-    unsigned long refused = 0;
-    for (int i = atoi(argv[3]); i > 0; i--) refused += is_plain ? plain(decide, listing, n) : proved(decide, listing, n);
-    printf("%lu\n", refused);
-    return refused != 0;
+    const char *what = argc < 4 ? NULL : strchr(argv[1], '-');
+    if (!what) return 2;
+    unsigned long size = choose(what + 1, argc > 4 ? (unsigned)atoi(argv[4]) : 0);
+    if (!old) return 2;
+    uint64_t said = 0;
+    for (int i = atoi(argv[3]); i > 0; i--) said = call(argv[1][0], argv[2]);
+    if (size) printf("%lu\n", size);
+    printf("number %u answer %u\n%.*s", (unsigned)(said >> 32), (unsigned)said, argv[1][0] == 'c' ? (int)(uint32_t)said : 0, (char *)answer);
+    return 0;
 }
