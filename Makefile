@@ -49,6 +49,8 @@ build/agree: tests/agree.c include/budquarry.h build/second.o build/yardstick.o 
 	$(X86) cc $(WARN) -O2 -static tests/agree.c build/second.o build/yardstick.o build/generate.o build/libbudquarry.a -o $@
 build/second_agree: second/agree.c build/second.o build/yardstick.o build/generate.o
 	$(X86) cc $(WARN) -O2 -static $^ -o $@
+build/typed: tests/typed.c include/budquarry.h build/second.o build/libbudquarry.a
+	$(X86) cc $(WARN) -O2 -static tests/typed.c build/second.o build/libbudquarry.a -o $@
 build/properties: tests/properties.c build/second.o build/generate.o
 	$(X86) cc $(WARN) -O2 -static $^ -o $@
 
@@ -90,10 +92,11 @@ gateway: build/gateway
 check-gateway: build/gateway $(CHECKED) build/gateway_client build/budquarry
 	tests/gateway build/gateway $(CHECKED)
 
-check: build/budquarry build/agree build/second_agree build/properties build/stack build/edges build/decide_edges
+check: build/budquarry build/agree build/typed build/second_agree build/properties build/stack build/edges build/decide_edges
 	tests/command
 	tests/install
 	tests/stored
+	$(X86) run build/typed
 	$(X86) run build/agree 1 100000
 	$(X86) run build/agree $(SEED) 20000
 	$(X86) run build/second_agree 0 1 large >build/second_agree.out || { cat build/second_agree.out; exit 1; }

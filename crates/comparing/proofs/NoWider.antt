@@ -182,9 +182,14 @@ answer-length r =
     let g = line-two (bytes "method") (r .method) in
     omega arith
 
-no-wider-length : length (answerOf none) ≡ 17
+-- the answer that shows none has 17 bytes
+pub no-wider-length : length (answerOf none) ≡ 17
 unfolding answerOf
 no-wider-length = line-two (bytes "verdict") (bytes "no wider")
+
+-- and one that shows a request has more
+pub wider-length : (r : Request) → 28 ≤ length (answerOf (some r))
+wider-length r = rw (answer-length r) (omega arith)
 
 module _ (old new : Text) (o : readingOf old ≡ accepted) (n : readingOf new ≡ accepted) where
   -- it has 646 bytes at most

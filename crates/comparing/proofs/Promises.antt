@@ -17,7 +17,7 @@ use Rattle.comparing.specs.Verdicts.{verdict}
 use Rattle.comparing.specs.Answers.{lineOf, answerOf}
 use Rattle.comparing.specs.declared.answers.Comparison.{Comparison}
 use Rattle.comparing.specs.Outcomes.{Compared, refusedFor, answered, answerSize, compared, comparisonFor, answerFor, comparisonOf, answerAfter, CompareOutcome}
-use Rattle.comparing.proofs.NoWider.{Shown, wider, GrantsNoMore, no-wider-by-calls, answer-short}
+use Rattle.comparing.proofs.NoWider.{Shown, wider, GrantsNoMore, no-wider-by-calls, no-wider-length, wider-length, answer-short}
 
 -- ---- the two forms of the answer
 no-wider-text : answerOf none ≡ bytes "verdict\tno wider\n"
@@ -85,6 +85,17 @@ module _ (old new answer : Text) (work : List ℕ) (c : Comparison) (left : Text
 
         there : take (c .length) left ≡ bytes "verdict\tno wider\n" → GrantsNoMore old new
         there e = no-wider-by-calls old new o n .0 (none-of (verdict (listingOf new) (listingOf old)) (sym written-is ∙ e))
+
+    -- so it is exactly where the length is 17
+    pub no-wider-by-length : (c .length ≡ 17) ↔ GrantsNoMore old new
+    no-wider-by-length = (
+      λ e. no-wider-by-calls old new o n .0 (none-of (verdict (listingOf new) (listingOf old)) (sym length-is ∙ e)),
+      λ g. length-is ∙ ap (λ (v : Option Request). length (answerOf v)) (no-wider-by-calls old new o n .1 g) ∙ no-wider-length,
+    )
+      where
+        none-of : (v : Option Request) → length (answerOf v) ≡ 17 → v ≡ none
+        none-of none e = refl
+        none-of (some r) e = let l = wider-length r in absurd (omega arith)
 
     -- and else the four lines of a request that is granted anew, the first of the trials
     pub else-wider : (take (c .length) left ≡ bytes "verdict\tno wider\n")
