@@ -18,7 +18,7 @@ use Rattle.reading.proofs.Truths.{never, and-right}
 use Rattle.reading.proofs.Accepted.{Proper, accepted-proper}
 use Rattle.deciding.specs.Requests.{Caller, Request, isPath, isMethod}
 use Rattle.deciding.specs.Decisions.{decide, isGrant}
-use Rattle.deciding.specs.Outcomes.{Asked, isGranted, decisionOf}
+use Rattle.deciding.specs.Outcomes.{asked, isGranted, decisionOf}
 use Rattle.deciding.proofs.Promises.{granted-exactly}
 use Rattle.comparing.specs.Trials.{trials}
 use Rattle.comparing.specs.Verdicts.{WellFormed, Widening, widens, verdict}
@@ -98,15 +98,11 @@ module _ (old new : Text) (o : readingOf old ≡ accepted) (n : readingOf new �
   wider r e = wider-of (listingOf new) (listingOf old) (accepted-proper new n) (accepted-proper old o) r e
 
 -- ---- the same by the calls of deciding
--- what is asked of a listing
-abbrev pub askedOf : Text → Text → Text → ℕ → Text → Asked
-askedOf listing path method login names = record { listing = listing; path = path; method = method; login = login; names = names }
-
 -- whatever deciding grants with the new listing it grants with the old one
 abbrev pub GrantsNoMore : Text → Text → Type 0
 GrantsNoMore old new =
     (path method : Text) (login : ℕ) (names : Text) (w w′ : List ℕ) → workSize ≤ length w → workSize ≤ length w′
-    → isGranted (decisionOf (askedOf new path method login names) w) ≡ true → isGranted (decisionOf (askedOf old path method login names) w′) ≡ true
+    → isGranted (decisionOf (asked new path method login names) w) ≡ true → isGranted (decisionOf (asked old path method login names) w′) ≡ true
 
 -- a work table that is long enough
 roomy : (k : ℕ) → k ≤ length (replicate {A = ℕ} k 0)
@@ -119,10 +115,10 @@ surely false h = absurd (h refl)
 module _ (old new : Text) (o : readingOf old ≡ accepted) (n : readingOf new ≡ accepted) where
   grants-no-more : verdict (listingOf new) (listingOf old) ≡ none → GrantsNoMore old new
   grants-no-more e path method login names w w′ h h′ g =
-      let G = granted-exactly (askedOf new path method login names) w h .0 g in
+      let G = granted-exactly (asked new path method login names) w h .0 g in
       let r : Request = record { path = path; method = method; caller = G .caller } in
       let F : WellFormed r = record { path = G .path; method = G .method; login = login; names = names; called = G .called } in
-      granted-exactly (askedOf old path method login names) w′ h′ .1
+      granted-exactly (asked old path method login names) w′ h′ .1
       record {
         reads = o;
         path = G .path;
@@ -138,9 +134,9 @@ module _ (old new : Text) (o : readingOf old ≡ accepted) (n : readingOf new �
       let l : workSize ≤ length w = roomy workSize in
       let g =
       h (r .path) (r .method) (F .login) (F .names) w w l l
-      (granted-exactly (askedOf new (r .path) (r .method) (F .login) (F .names)) w l .1
+      (granted-exactly (asked new (r .path) (r .method) (F .login) (F .names)) w l .1
       record { reads = n; path = F .path; method = F .method; caller = r .caller; called = F .called; grant = W .granted }) in
-      let G = granted-exactly (askedOf old (r .path) (r .method) (F .login) (F .names)) w l .0 g in
+      let G = granted-exactly (asked old (r .path) (r .method) (F .login) (F .names)) w l .0 g in
       let c : G .caller ≡ r .caller = Option·some-injective (G .caller) (r .caller) (sym (G .called) ∙ F .called) in
       never (isGrant (decide (listingOf old) r)) (ap (λ (x : Caller). isGrant (decide (listingOf old) (record { path = r .path; method = r .method; caller = x }))) (sym c) ∙ G .grant) (W .denied))
 

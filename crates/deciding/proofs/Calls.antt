@@ -24,11 +24,11 @@ use Rattle.reading.proofs.Regions.{index-bound}
 use Rattle.reading.proofs.Accepted.{Proper, accepted-proper}
 use Rattle.deciding.specs.Requests.{Caller, isPath, callerOf}
 use Rattle.deciding.specs.Decisions.{answerNumber}
-use Rattle.deciding.specs.Outcomes.{refused, answered, decideCaller, decideRequest, decideListing, decisionOf, DecideOutcome}
+use Rattle.deciding.specs.Outcomes.{refused, answered, asked, decideCaller, decideRequest, decideListing, decisionOf, DecideOutcome}
 use Rattle.deciding.specs.Strengths.{leading}
 use Rattle.deciding.specs.Holdings.{heldBy}
 use Rattle.deciding.specs.Joinings.{joinedUpTo, joinedAnswer}
-use Rattle.deciding.specs.Deciders.{asked, answerFor}
+use Rattle.deciding.specs.Deciders.{answerFor}
 use Rattle.deciding.specs.declared.answers.Answer.{Answer}
 use Rattle.deciding.specs.declared.answers.Answer.the-variants.{Open}
 use Rattle.deciding.specs.declared.answers.Decision.{Decision}

@@ -1,5 +1,4 @@
 -- What the functions of the call hand to each other: for the proofs alone.
-use Prim.Native.Nat.{ℕ}
 use mathlib.Core.Bool.{cond}
 use mathlib.Core.List.{[]}
 use lib.ListN.{length, getD}
@@ -8,15 +7,11 @@ use Rattle.reading.specs.Texts.{Text}
 use Rattle.reading.specs.Listings.{Listing}
 use Rattle.reading.specs.Tables.{indexOf}
 use Rattle.reading.specs.Views.{patternsOf}
-use Rattle.deciding.specs.Outcomes.{Asked}
 use Rattle.deciding.specs.Strengths.{leading}
 use Rattle.deciding.specs.Joinings.{joinedUpTo, joinedAnswer}
 use Rattle.deciding.specs.declared.answers.Answer.{Answer}
 use Rattle.deciding.specs.declared.answers.Answer.the-variants.{Open}
 use Rattle.deciding.specs.declared.callers.Held.{Held}
-
-abbrev pub asked : Text → Text → Text → ℕ → Text → Asked
-asked s path method login names = record { listing = s; path = path; method = method; login = login; names = names }
 
 -- the answer by the strongest pattern line, and by the constraints joined for its text
 unfoldable pub answerFor : Listing → Text → Text → Held → Answer

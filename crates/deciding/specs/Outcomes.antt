@@ -32,6 +32,9 @@ pub record Asked : Type 0 where
   pub login : ℕ
   pub names : Text
 
+abbrev pub asked : Text → Text → Text → ℕ → Text → Asked
+asked listing path method login names = record { listing = listing; path = path; method = method; login = login; names = names }
+
 abbrev pub decideCaller : Asked → Option Caller → Decision
 decideCaller a none = refused 13 0 0
 decideCaller a (some c) = answered (answerNumber (decide (listingOf (a .listing)) (record { path = a .path; method = a .method; caller = c })))

@@ -1,7 +1,6 @@
 // The C library: the calls of the three layers in one archive. Each is its layer's own, with its layer's statement.
 ghost use Rattle.reading.specs.Outcomes.{ReadOutcome};
-ghost use Rattle.deciding.specs.Deciders.{asked};
-ghost use Rattle.deciding.specs.Outcomes.{DecideOutcome};
+ghost use Rattle.deciding.specs.Outcomes.{asked, DecideOutcome};
 ghost use Rattle.comparing.specs.Outcomes.{CompareOutcome};
 use comparing::answers::Comparison;
 use comparing::comparer;
