@@ -20,7 +20,7 @@
  * The work table is scratch: of at least BUDQUARRY_WORK numbers, whatever they are. After a call the first BUDQUARRY_WORK are zero and the
  * rest as before; with refusal 1 none changes.
  *
- * Stack of one call: under 1 KiB for reading and for deciding, under 12 KiB for comparing; see bench/RESULTS.md.
+ * Stack of one call: under 2 KiB for reading and for deciding, under 12 KiB for comparing; see bench/RESULTS.md.
  */
 #ifndef BUDQUARRY_H
 #define BUDQUARRY_H
