@@ -4,11 +4,11 @@ use mathlib.Core.List.{_∷_, _++_, append-assoc}
 use Prim.Native.Nat.{ℕ, _+_, _≤_}
 use native.Mathlib.Omega.{arith}
 use lib.ListN.{length, drop, length-append}
-use Rattle.reading.specs.Texts.{Text, bytes, tab}
-use Rattle.comparing.specs.Answers.{lineOf}
-use Rattle.comparing.specs.Writings.{spliced, written}
+use Rattle.text.specs.Texts.{Text, bytes, tab}
+use Rattle.trials.specs.Answers.{lineOf}
+use Rattle.fillers.specs.Writings.{spliced, written}
 use Rattle.comparing.proofs.Answering.{put-behind, place-behind}
-use Rattle.comparing.proofs.Decimals.{digits-most}
+use Rattle.trials.proofs.Decimals.{digits-most}
 use Rattle.compare.specs.Printed.{decimal, refusalLine}
 
 -- ---- a field: a tab, and a number behind it

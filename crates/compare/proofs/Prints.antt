@@ -7,13 +7,13 @@ use lib.ListN.{length, drop, length-append}
 use lib.Seq.{length-take-le}
 use borrow.Author.Tests.{le-ltb}
 use Rattle.io.specs.Counts.{Counts}
-use Rattle.reading.specs.Texts.{Text}
-use Rattle.reading.specs.Refusals.{Reading, accepted, refusal, numberOf, readingOf}
-use Rattle.reading.specs.declared.answers.Fault.{Fault}
-use Rattle.reading.specs.declared.answers.Fault.the-variants.{LongListing, BadFirstLine, BadForm, WrongPlace, BadName, BadPattern, RoleTwice, PastMost, NoEnd}
+use Rattle.text.specs.Texts.{Text}
+use Rattle.listings.specs.Refusals.{Reading, accepted, refusal, numberOf, readingOf}
+use Rattle.listings.specs.declared.answers.Fault.{Fault}
+use Rattle.listings.specs.declared.answers.Fault.the-variants.{LongListing, BadFirstLine, BadForm, WrongPlace, BadName, BadPattern, RoleTwice, PastMost, NoEnd}
 use Rattle.comparing.specs.declared.answers.Comparison.{Comparison}
 use Rattle.comparing.specs.Outcomes.{Compared, refusedFor, answered, compared, comparedNew, comparedOld, comparisonFor, answerFor, comparisonOf, answerAfter, CompareOutcome}
-use Rattle.comparing.specs.Writings.{written}
+use Rattle.fillers.specs.Writings.{written}
 use Rattle.compare.specs.Printed.{refusalLine, printedFor, printedOf}
 
 -- a text that is written counts as far as it goes

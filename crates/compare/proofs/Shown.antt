@@ -1,9 +1,9 @@
 -- Lines of refusals, computed from their definition.
 use mathlib.Core.Path.{_≡_, refl}
 use mathlib.Core.List.{[], _∷_}
-use Rattle.reading.specs.Texts.{bytes}
-use Rattle.comparing.specs.Answers.{lineOf}
-use Rattle.comparing.specs.Fillers.{digits}
+use Rattle.text.specs.Texts.{bytes}
+use Rattle.trials.specs.Answers.{lineOf}
+use Rattle.trials.specs.Fillers.{digits}
 use Rattle.compare.specs.Printed.{refusalLine}
 
 -- a number has as many digits as it needs, the largest of 32 bits too

@@ -1,3 +1,3 @@
 -- What the contracts of this program cite:
---   Printed  the text that is printed of two listings
+--   Printed  the text that is printed of two listings, and the whole outcome
 pub mod Printed

@@ -1,11 +1,15 @@
 -- The text that is printed of an old and a new listing: the answer's, or "on a refusal [..] one line, `refused⇥NUMBER⇥SIDE⇥LINE`".
 use Prim.Native.Nat.{ℕ}
-use mathlib.Core.List.{[], _∷_}
-use Rattle.reading.specs.Texts.{Text, bytes}
-use Rattle.reading.specs.Refusals.{readingOf}
-use Rattle.comparing.specs.Answers.{lineOf}
-use Rattle.comparing.specs.Fillers.{digits}
+use mathlib.Core.Path.{_≡_}
+use mathlib.Core.List.{List, [], _∷_}
+use lib.ListN.{length}
+use Rattle.text.specs.Texts.{Text, bytes}
+use Rattle.listings.specs.Refusals.{readingOf}
+use Rattle.reading.specs.Outcomes.{workAfter}
+use Rattle.trials.specs.Answers.{lineOf}
+use Rattle.trials.specs.Fillers.{digits}
 use Rattle.comparing.specs.Outcomes.{Compared, refusedFor, answered, comparedOld}
+use Rattle.fillers.specs.Writings.{written}
 
 -- a 32-bit number has ten decimal digits at most
 abbrev pub decimal : ℕ → Text
@@ -24,3 +28,9 @@ printedFor (answered t) = t
 unfoldable pub printedOf : Text → Text → Text
 unfolding printedFor readingOf
 printedOf old new = printedFor (comparedOld old new (readingOf old))
+
+-- the whole outcome, with the text's buffer and the work table before it: how many bytes are printed, and both after it
+pub record PrintOutcome (old new text : Text) (work : List ℕ) (count : ℕ) (textLeft : Text) (workLeft : List ℕ) : Type 0 where
+  pub counted : count ≡ length (printedOf old new)
+  pub printed : textLeft ≡ written (printedOf old new) text
+  pub worked : workLeft ≡ workAfter work

@@ -4,11 +4,11 @@ ghost use mathlib.Core.List.{_∷_};
 ghost use Prim.Native.Nat.{_+_, _≤_};
 ghost use lib.ListN.{length};
 ghost use Rattle.io.specs.Counts.{Counts};
-ghost use Rattle.reading.specs.Texts.{tab};
-ghost use Rattle.comparing.specs.Writings.{spliced, written};
-ghost use Rattle.compare.specs.Printed.{decimal, refusalLine, printedOf};
+ghost use Rattle.text.specs.Texts.{tab};
+ghost use Rattle.fillers.specs.Writings.{spliced, written};
+ghost use Rattle.compare.specs.Printed.{decimal, refusalLine, PrintOutcome};
 use comparing::comparer;
-use comparing::writing;
+use fillers::writing;
 
 // Puts a tab and a number at a place, and hands back the place behind it.
 fn put_field(text: &mut [u8], at: usize, n: u32) -> usize
@@ -37,8 +37,7 @@ fn put_refusal(text: &mut [u8], number: u32, side: u32, line: u32) -> usize
 // Puts what is printed of two listings at the start of text, and hands back its length.
 pub fn compare_into(old: &[u8], new: &[u8], text: &mut [u8], work: &mut [u32]) -> usize
     requires { ⌜ (1024 ≤ length (now text)) × (4096 ≤ length (now work)) ⌝ }
-    ensures size { λ r. ⌜ r ≡ length (printedOf (now (old .entry)) (now (new .entry))) ⌝ }
-    ensures bytes { λ _. ⌜ now (text .exit) ≡ written (printedOf (now (old .entry)) (now (new .entry))) (now (text .entry)) ⌝ }
+    ensures outcome { λ r. ⌜ PrintOutcome (now (old .entry)) (now (new .entry)) (now (text .entry)) (now (work .entry)) r (now (text .exit)) (now (work .exit)) ⌝ }
     ensures fits { λ r. ⌜ Counts r (now (text .exit)) ⌝ }
 {
     let c = comparer::budquarry_compare(old, new, text, work);

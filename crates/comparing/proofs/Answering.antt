@@ -6,21 +6,21 @@ use Prim.Native.Nat.{ℕ, zero, suc, _+_, _-_, _≤_, _<_}
 use native.Mathlib.Omega.{arith}
 use lib.ListN.{length, take, drop, getD, length-append, length-drop}
 use lib.Seq.{length-take-le, drop-append-add, take-at, drop-drop}
-use Rattle.reading.specs.Texts.{Text, bytes, newline}
-use Rattle.reading.specs.Listings.{listingOf}
-use Rattle.reading.specs.Names.{isRoleName}
-use Rattle.reading.specs.Bytes.{isText}
-use Rattle.reading.specs.Tables.{Holds}
+use Rattle.text.specs.Texts.{Text, bytes, newline}
+use Rattle.listings.specs.Listings.{listingOf}
+use Rattle.listings.specs.Names.{isRoleName}
+use Rattle.text.specs.Bytes.{isText}
+use Rattle.reading.specs.Holds.{Holds}
 use Rattle.reading.specs.declared.tables.Tally.{Tally}
 use Rattle.reading.proofs.Accepted.{accepted-proper}
-use Rattle.reading.proofs.Indices.{member-at}
 use Rattle.deciding.specs.Requests.{Caller}
-use Rattle.comparing.specs.Answers.{lineOf, callerFields, answerOf}
+use Rattle.trials.specs.Answers.{lineOf, callerFields, answerOf}
 use Rattle.comparing.specs.Outcomes.{answered, comparisonFor, answerFor}
-use Rattle.comparing.specs.Sides.{callerAt}
-use Rattle.comparing.specs.Writings.{spliced, written}
+use Rattle.grants.specs.Sides.{callerAt}
+use Rattle.fillers.specs.Writings.{spliced, written}
 use Rattle.comparing.specs.declared.answers.Comparison.{Comparison}
-use Rattle.comparing.proofs.Bounds.{made-short, role-made}
+use Rattle.trials.proofs.Bounds.{made-short, role-made}
+use Rattle.text.proofs.Indices.{member-at}
 
 -- ---- u is put where t ends
 module _ (out out′ : Text) (at b : ℕ) (t u : Text) (room : at + length t + length u ≤ length out) (place : b ≡ at + length t) (put : out′ ≡ spliced at t out) where

@@ -1,14 +1,14 @@
 -- 01's worked request 12, from the bytes of the listings to the bytes of the answer, as antt computes it.
 use mathlib.Core.Path.{_≡_, refl}
 use mathlib.Core.List.{_++_}
-use Rattle.reading.specs.Texts.{Text, bytes}
-use Rattle.reading.specs.Bytes.{isText, isToken}
-use Rattle.reading.specs.Names.{isRoleName, isMethodName}
-use Rattle.reading.specs.Records.{namesRole}
-use Rattle.reading.specs.Refusals.{readingOf}
-use Rattle.reading.specs.Listings.{listingOf}
-use Rattle.comparing.specs.Verdicts.{verdict}
-use Rattle.comparing.specs.Answers.{answerOf}
+use Rattle.text.specs.Texts.{Text, bytes}
+use Rattle.text.specs.Bytes.{isText, isToken}
+use Rattle.listings.specs.Names.{isRoleName, isMethodName}
+use Rattle.listings.specs.Records.{namesRole}
+use Rattle.listings.specs.Refusals.{readingOf}
+use Rattle.listings.specs.Listings.{listingOf}
+use Rattle.trials.specs.Verdicts.{verdict}
+use Rattle.trials.specs.Answers.{answerOf}
 use Rattle.comparing.specs.Outcomes.{answered, comparedOld}
 
 -- `old.txt` and `new.txt`: "New is old with these lines before `end`"

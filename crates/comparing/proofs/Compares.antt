@@ -7,21 +7,21 @@ use lib.ListN.{length, take, drop, replicate, length-append, length-drop}
 use lib.Seq.{length-take-le, length-front, take-at, drop-at, take-take, take-add, drop-drop, drop-append-add, take-append-add}
 use borrow.Rule.Slice.PartMut.{putMid, postOf, post-is, same-len-mid}
 use borrow.Author.Tests.{lt-ltb, le-ltb}
-use Rattle.reading.specs.Texts.{Text}
-use Rattle.reading.specs.Listings.{Listing, listingOf}
+use Rattle.text.specs.Texts.{Text}
+use Rattle.listings.specs.Listings.{Listing, listingOf}
 use Rattle.reading.specs.Outcomes.{zeroed, workAfter}
-use Rattle.reading.specs.Refusals.{numberOf, readingOf}
-use Rattle.reading.specs.Tables.{Holds, LoadOutcome}
-use Rattle.reading.specs.declared.answers.Fault.{Fault}
+use Rattle.listings.specs.Refusals.{numberOf, readingOf}
+use Rattle.reading.specs.Holds.{Holds, LoadOutcome}
+use Rattle.listings.specs.declared.answers.Fault.{Fault}
 use Rattle.reading.specs.declared.reader.Loaded.{Loaded}
 use Rattle.reading.specs.declared.reader.Loaded.the-variants.{Whole, Not}
 use Rattle.reading.specs.declared.tables.Tally.{Tally}
-use Rattle.comparing.specs.Fillers.{numbered, digits, firstNumber, fills, filler, isUnnamed, fillerMethod, fillerOf, fillerMethodOf}
+use Rattle.trials.specs.Fillers.{numbered, digits, firstNumber, fills, filler, isUnnamed, fillerMethod, fillerOf, fillerMethodOf}
 use Rattle.comparing.specs.Outcomes.{comparedBoth, comparedNew, comparedOld, compared, comparisonFor, answerFor, comparisonOf, answerAfter, CompareOutcome}
-use Rattle.comparing.specs.Sides.{SideOf, PairsOf, Ready}
-use Rattle.comparing.specs.Walks.{textsOf}
+use Rattle.grants.specs.Sides.{SideOf, PairsOf, Ready}
+use Rattle.walks.specs.Walks.{textsOf}
 use Rattle.comparing.specs.declared.answers.Comparison.{Comparison}
-use Rattle.comparing.proofs.FillersExist.{filler-short}
+use Rattle.trials.proofs.FillersExist.{filler-short}
 
 -- ---- the fillers
 module _ (new old : Listing) (t : Text) where

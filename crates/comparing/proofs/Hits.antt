@@ -11,33 +11,32 @@ use lib.ListN.{length, take, getD, List·getD-eq-default}
 use lib.Seq.{length-take-le, take-all}
 use borrow.Author.Tests.{lt-ltb, le-ltb, leb-true}
 use lib.Dec.{ltb, leb}
-use Rattle.reading.specs.Texts.{Text, member}
-use Rattle.reading.specs.Bytes.{between, isText, isToken}
-use Rattle.reading.specs.Names.{madeOf, isName, isRoleName, isMethodName}
-use Rattle.reading.specs.Listings.{Listing, listingOf}
-use Rattle.reading.specs.Tables.{Holds, indexOf}
+use Rattle.text.specs.Texts.{Text, member, indexOf}
+use Rattle.text.specs.Bytes.{between, isText, isToken}
+use Rattle.listings.specs.Names.{madeOf, isName, isRoleName, isMethodName}
+use Rattle.listings.specs.Listings.{Listing, listingOf}
+use Rattle.reading.specs.Holds.{Holds}
 use Rattle.reading.specs.declared.tables.Tally.{Tally}
 use Rattle.reading.proofs.Accepted.{Proper, accepted-proper}
-use Rattle.reading.proofs.Countings.{index-member}
-use Rattle.reading.proofs.Indices.{index-here, member-at}
-use Rattle.reading.proofs.Plainly.{member-plain}
-use Rattle.reading.proofs.Truths.{never, and-left, and-right}
+use Rattle.listings.proofs.Plainly.{member-plain}
+use Rattle.text.proofs.Truths.{never, and-left, and-right}
+use Rattle.text.proofs.Indices.{index-member, index-here, member-at}
 use Rattle.deciding.specs.Requests.{Caller, nobody, holder, Request}
 use Rattle.deciding.proofs.Strengths.{at-listed}
-use Rattle.comparing.specs.Answers.{answerOf}
-use Rattle.comparing.specs.Fillers.{fillerMethodOf}
+use Rattle.trials.specs.Answers.{answerOf}
+use Rattle.trials.specs.Fillers.{fillerMethodOf}
 use Rattle.comparing.specs.Outcomes.{answered, comparedBoth, comparisonFor, answerFor}
-use Rattle.comparing.specs.Sides.{callerAt, PairsOf}
-use Rattle.comparing.specs.Trials.{joined, trialPaths, trialMethods, trialCallers, trials}
-use Rattle.comparing.specs.Verdicts.{widens, verdict}
-use Rattle.comparing.specs.Walks.{hitIn}
+use Rattle.grants.specs.Sides.{callerAt, PairsOf}
+use Rattle.trials.specs.Trials.{joined, trialPaths, trialMethods, trialCallers, trials}
+use Rattle.trials.specs.Verdicts.{widens, verdict, NobodyOrOne}
+use Rattle.walks.specs.Walks.{hitIn}
 use Rattle.comparing.specs.declared.answers.Comparison.{Comparison}
-use Rattle.comparing.specs.declared.walking.Hit.{Hit}
-use Rattle.comparing.specs.declared.walking.Hit.the-variants as H
-use Rattle.comparing.proofs.Bounds.{NobodyOrOne, made-short, role-made, path-short, method-good, caller-good}
-use Rattle.comparing.proofs.Choices.{first-listed, first-some, joined-of}
-use Rattle.comparing.proofs.FillersExist as F
-use Rattle.comparing.proofs.Widenings.{Trial, trial-parts}
+use Rattle.walks.specs.declared.walking.Hit.{Hit}
+use Rattle.walks.specs.declared.walking.Hit.the-variants as H
+use Rattle.trials.proofs.Bounds.{made-short, role-made, path-short, method-good, caller-good}
+use Rattle.trials.proofs.Choices.{first-listed, first-some, joined-of}
+use Rattle.trials.proofs.FillersExist as F
+use Rattle.trials.proofs.Widenings.{Trial, trial-parts}
 
 -- ---- trial method m, by its pair
 module _ (new old : Listing) (pairs : List ℕ) (count m : ℕ) (P : PairsOf new old pairs count) (within : m < count) where

@@ -3,7 +3,7 @@ use mathlib.Core.Path.{_≡_, sym, _∙_}
 use mathlib.Core.List.{List}
 use Prim.Native.Nat.{ℕ, _≤_}
 use lib.ListN.{length, drop}
-use Rattle.reading.specs.Texts.{Text}
+use Rattle.text.specs.Texts.{Text}
 use Rattle.reading.specs.Outcomes.{workSize, workAfter}
 use Rattle.reading.proofs.Unique.{work-same}
 use Rattle.comparing.specs.declared.answers.Comparison.{Comparison}

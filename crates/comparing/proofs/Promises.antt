@@ -8,16 +8,16 @@ use native.Mathlib.Omega.{arith}
 use lib.ListN.{length, take, drop, length-append, length-drop, getD}
 use lib.Seq.{take-append-seam, drop-append-seam}
 use borrow.Author.Tests.{le-ltb}
-use Rattle.reading.specs.Texts.{Text, bytes}
-use Rattle.reading.specs.Refusals.{accepted, readingOf}
-use Rattle.reading.specs.Listings.{listingOf}
+use Rattle.text.specs.Texts.{Text, bytes}
+use Rattle.listings.specs.Refusals.{accepted, readingOf}
+use Rattle.listings.specs.Listings.{listingOf}
 use Rattle.reading.specs.Outcomes.{workSize}
 use Rattle.deciding.specs.Requests.{Request}
-use Rattle.comparing.specs.Verdicts.{verdict}
-use Rattle.comparing.specs.Answers.{lineOf, answerOf}
+use Rattle.trials.specs.Verdicts.{verdict, Shown, GrantsNoMore}
+use Rattle.trials.specs.Answers.{lineOf, answerOf}
 use Rattle.comparing.specs.declared.answers.Comparison.{Comparison}
 use Rattle.comparing.specs.Outcomes.{Compared, refusedFor, answered, answerSize, compared, comparisonFor, answerFor, comparisonOf, answerAfter, CompareOutcome}
-use Rattle.comparing.proofs.NoWider.{Shown, wider, GrantsNoMore, no-wider-by-calls, no-wider-length, wider-length, answer-short}
+use Rattle.trials.proofs.NoWider.{wider, no-wider-by-calls, no-wider-length, wider-length, answer-short}
 
 -- ---- the two forms of the answer
 no-wider-text : answerOf none ≡ bytes "verdict\tno wider\n"

@@ -5,12 +5,12 @@ use mathlib.Core.Bool.{Bool, cond}
 use mathlib.Core.List.{List, _++_}
 use lib.ListN.{length, drop}
 use lib.Dec.{ltb}
-use Rattle.reading.specs.Texts.{Text}
-use Rattle.reading.specs.Refusals.{Reading, accepted, refusal, numberOf, readingOf}
-use Rattle.reading.specs.Listings.{listingOf}
+use Rattle.text.specs.Texts.{Text}
+use Rattle.listings.specs.Refusals.{Reading, accepted, refusal, numberOf, shortTable, smallAnswer, readingOf}
+use Rattle.listings.specs.Listings.{listingOf}
 use Rattle.reading.specs.Outcomes.{isShort, workAfter}
-use Rattle.comparing.specs.Verdicts.{verdict}
-use Rattle.comparing.specs.Answers.{answerOf}
+use Rattle.trials.specs.Verdicts.{verdict}
+use Rattle.trials.specs.Answers.{answerOf}
 use Rattle.comparing.specs.declared.answers.Comparison.{Comparison}
 
 -- ---- a refusal, with its number, side and line, or an answer's text
@@ -42,8 +42,8 @@ comparedOld old new (refusal f n) = refusedFor (numberOf f) 1 n
 unfoldable pub compared : Text → Text → Text → List ℕ → Compared
 unfolding readingOf verdict listingOf answerOf
 compared old new answer work =
-    cond (isShort work) (refusedFor 1 0 0)
-    (cond (isSmall answer) (refusedFor 14 0 0)
+    cond (isShort work) (refusedFor shortTable 0 0)
+    (cond (isSmall answer) (refusedFor smallAnswer 0 0)
     (comparedOld old new (readingOf old)))
 
 -- ---- what comes of it

@@ -4,33 +4,35 @@ ghost use mathlib.Core.List.{[]};
 ghost use mathlib.Core.Option.{none, some};
 ghost use Prim.Native.Nat.{_+_, _*_, _≤_, _<_};
 ghost use lib.ListN.{length, take, drop, getD};
-ghost use Rattle.reading.specs.Listings.{listingOf};
+ghost use Rattle.listings.specs.Listings.{listingOf};
 ghost use Rattle.reading.specs.Outcomes.{zeroed};
-ghost use Rattle.reading.specs.Refusals.{readingOf};
-ghost use Rattle.reading.specs.Tables.{Holds, LoadOutcome};
-ghost use Rattle.comparing.specs.Answers.{lineOf, callerFields, answerOf};
-ghost use Rattle.comparing.specs.Fillers.{firstNumber, fills, fillerOf, fillerMethodOf};
+ghost use Rattle.listings.specs.Refusals.{readingOf};
+ghost use Rattle.reading.specs.Holds.{Holds, LoadOutcome};
+ghost use Rattle.trials.specs.Answers.{lineOf, callerFields, answerOf};
+ghost use Rattle.trials.specs.Fillers.{firstNumber, fills, fillerOf, fillerMethodOf};
 ghost use Rattle.comparing.specs.Outcomes.{answered, comparedBoth, comparedOld, comparisonFor, answerFor, CompareOutcome};
-ghost use Rattle.comparing.specs.Trials.{trialMethods};
-ghost use Rattle.comparing.specs.Sides.{PairsOf, Ready, callerAt};
-ghost use Rattle.comparing.specs.Verdicts.{verdict};
-ghost use Rattle.comparing.specs.Walks.{hitIn, textsOf};
-ghost use Rattle.comparing.specs.Writings.{spliced};
+ghost use Rattle.trials.specs.Trials.{trialMethods};
+ghost use Rattle.grants.specs.Sides.{PairsOf, Ready, callerAt};
+ghost use Rattle.trials.specs.Verdicts.{verdict};
+ghost use Rattle.walks.specs.Walks.{hitIn, textsOf};
+ghost use Rattle.fillers.specs.Writings.{spliced};
 use crate::answers;
 use crate::answers::Comparison;
-use crate::fillers;
-use crate::methods;
-use crate::paths;
-use crate::sides;
-use crate::walking;
-use crate::walking::Hit;
-use crate::writing;
-use reading::answers::number;
+use fillers::finding;
+use fillers::writing;
+use grants::methods;
+use grants::sides;
+use listings::answers::SHORT_TABLE;
+use listings::answers::SMALL_ANSWER;
+use listings::answers::number;
 use reading::held;
 use reading::reader;
 use reading::reader::Loaded;
 use reading::tables;
 use reading::tables::Tally;
+use walks::paths;
+use walks::walking;
+use walks::walking::Hit;
 
 // An answer of n bytes.
 pub fn answer_of(n: usize) -> Comparison
@@ -284,7 +286,7 @@ pub fn compare_numbered(
     let m = writing::put_numbered(
         &mut method,
         81,
-        fillers::method_number(new, wn, tn, old, wo, to),
+        finding::method_number(new, wn, tn, old, wo, to),
     );
     compare_filled(new, wn, tn, old, wo, to, &filler[..f], &method[..m], answer)
 }
@@ -323,7 +325,7 @@ pub fn compare_held(
     ensures answer { λ _. ⌜ now (answer .exit) ≡ answerFor (comparedBoth (now (old .entry)) (now (new .entry))) (now (answer .entry)) ⌝ }
     ensures rest { λ _. ⌜ (drop (4 * n) (now (w .exit)) ≡ drop (4 * n) (now (w .entry))) × (length (now (w .exit)) ≡ length (now (w .entry))) ⌝ }
 {
-    let number = fillers::filler_number(new, tn, old, to, w, n);
+    let number = finding::filler_number(new, tn, old, to, w, n);
     compare_tables(old, to, new, tn, w, n, number, answer)
 }
 
@@ -384,11 +386,11 @@ pub extern "C" fn budquarry_compare(
     ensures { λ r. ⌜ CompareOutcome (now (old .entry)) (now (new .entry)) (now (answer .entry)) (now (work .entry)) r (now (answer .exit)) (now (work .exit)) ⌝ }
 {
     if work.len() < reader::WORK {
-        return answers::refuse(1, 0, 0);
+        return answers::refuse(SHORT_TABLE, 0, 0);
     }
     if answer.len() < 1024 {
         reader::zero_first(work, reader::WORK);
-        return answers::refuse(14, 0, 0);
+        return answers::refuse(SMALL_ANSWER, 0, 0);
     }
     compare_with(old, new, answer, work, 1024)
 }

@@ -12,18 +12,18 @@ use lib.Pow.{pow-lt}
 use lib.Dec.{eqb, ltb}
 use lib.Bits.{bitOr}
 use borrow.Author.Tests.{eqb-true, lt-ltb, le-ltb, le-leb, lt-leb, not-true, not-false}
-use Rattle.reading.specs.Texts.{Text, tab, newline, all, part}
-use Rattle.reading.specs.Bytes.{between, isText}
-use Rattle.reading.specs.Lines.{Line, before, linesOf, toFieldEnd}
-use Rattle.reading.specs.Names.{isName, isRoleName}
-use Rattle.reading.specs.Listings.{Listing, listingOf}
-use Rattle.reading.specs.Tables.{indexOf, Holds}
+use Rattle.text.specs.Texts.{Text, tab, newline, all, part, indexOf}
+use Rattle.text.specs.Bytes.{between, isText}
+use Rattle.text.specs.Lines.{Line, before, linesOf, toFieldEnd}
+use Rattle.listings.specs.Names.{isName, isRoleName}
+use Rattle.listings.specs.Listings.{Listing, listingOf}
+use Rattle.reading.specs.Holds.{Holds}
 use Rattle.reading.specs.declared.tables.Tally.{Tally}
-use Rattle.reading.proofs.Truths.{or-right}
+use Rattle.text.proofs.Truths.{or-right}
+use Rattle.reading.proofs.Accepted.{accepted-proper}
 use Rattle.deciding.specs.Holdings.{withRole, heldFrom, heldBy}
 use Rattle.deciding.specs.declared.callers.Held.{Held}
 use Rattle.deciding.specs.declared.callers.Held.the-variants.{Bad, Nobody, Roles}
-use Rattle.deciding.proofs.Holders.{roles-few}
 
 -- ---- a role put in
 module _ (s : Text) (t : Tally) (w : List ℕ) (H : Holds s t w) (x : ℕ) (n : Text) (i k : ℕ)
@@ -32,7 +32,7 @@ module _ (s : Text) (t : Tally) (w : List ℕ) (H : Holds s t w) (x : ℕ) (n : 
   pub role-in : i < k → bitOr x (1 * 2 ^ (i % 64) % 18446744073709551616) ≡ withRole (listingOf s) x n
   unfolding withRole
   role-in h =
-      let j : i < 64 = omega (arith, roles-few s (H .accepts)) in
+      let j : i < 64 = omega (arith, accepted-proper s (H .accepts) .few-roles) in
       let q : ltb (indexOf n (listingOf s .roles)) (length (listingOf s .roles)) ≡ true = rw (← e, ← f) (lt-ltb i k h) in
       rw (mod-eq-of-lt j, one-mul (2 ^ i), q, ← e) (ap (bitOr x) (mod-eq-of-lt (pow-lt j)))
 

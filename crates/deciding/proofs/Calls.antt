@@ -9,18 +9,16 @@ use native.Mathlib.Omega.{arith}
 use lib.ListN.{length, getD, take, drop, replicate}
 use lib.Seq.{length-take-le, length-front, take-at, drop-at}
 use borrow.Author.Tests.{lt-ltb, le-ltb, ne-eqb, not-true, not-false}
-use Rattle.reading.specs.Texts.{Text}
-use Rattle.reading.specs.Names.{isMethodName}
-use Rattle.reading.specs.Refusals.{numberOf, readingOf}
-use Rattle.reading.specs.Listings.{Listing, listingOf}
+use Rattle.text.specs.Texts.{Text, indexOf}
+use Rattle.listings.specs.Names.{isMethodName}
+use Rattle.listings.specs.Refusals.{numberOf, readingOf}
+use Rattle.listings.specs.Listings.{Listing, listingOf, patternsOf}
 use Rattle.reading.specs.Outcomes.{zeroed, workAfter}
-use Rattle.reading.specs.Tables.{Holds, LoadOutcome, indexOf}
-use Rattle.reading.specs.Views.{patternsOf}
-use Rattle.reading.specs.declared.answers.Fault.{Fault}
+use Rattle.reading.specs.Holds.{Holds, LoadOutcome}
+use Rattle.listings.specs.declared.answers.Fault.{Fault}
 use Rattle.reading.specs.declared.reader.Loaded.{Loaded}
 use Rattle.reading.specs.declared.reader.Loaded.the-variants.{Whole, Not}
 use Rattle.reading.specs.declared.tables.Tally.{Tally}
-use Rattle.reading.proofs.Regions.{index-bound}
 use Rattle.reading.proofs.Accepted.{Proper, accepted-proper}
 use Rattle.deciding.specs.Requests.{Caller, isPath, callerOf}
 use Rattle.deciding.specs.Decisions.{answerNumber}
@@ -39,6 +37,7 @@ use Rattle.deciding.specs.declared.decisions.Leading.{Leading}
 use Rattle.deciding.proofs.Strengths.{leads}
 use Rattle.deciding.proofs.Holders.{held-bad}
 use Rattle.deciding.proofs.Joins.{answer-for}
+use Rattle.text.proofs.Indices.{index-bound}
 
 -- ---- the answer for a path and a method
 -- a method has its place or none: their number is small

@@ -4,12 +4,12 @@ use mathlib.Core.List.{List, [], _∷_, _++_, map}
 use Prim.Native.Nat.{ℕ, _≤_}
 use lib.ListN.{length}
 use borrow.Author.Tests.{le-ltb}
-use Rattle.reading.specs.Texts.{Text, bytes}
-use Rattle.reading.specs.Bytes.{isText, isToken}
-use Rattle.reading.specs.Names.{isRoleName, isMethodName}
-use Rattle.reading.specs.Records.{namesRole}
-use Rattle.reading.specs.Refusals.{readingOf}
-use Rattle.reading.specs.Listings.{listingOf}
+use Rattle.text.specs.Texts.{Text, bytes}
+use Rattle.text.specs.Bytes.{isText, isToken}
+use Rattle.listings.specs.Names.{isRoleName, isMethodName}
+use Rattle.listings.specs.Records.{namesRole}
+use Rattle.listings.specs.Refusals.{readingOf}
+use Rattle.listings.specs.Listings.{listingOf}
 use Rattle.reading.specs.Outcomes.{workSize}
 use Rattle.deciding.specs.Requests.{isPath, callerOf}
 use Rattle.deciding.specs.Decisions.{decide, answerNumber}

@@ -12,37 +12,20 @@ use lib.ListN.{length, getD}
 use lib.Dec.{eqb, leb, ltb}
 use lib.Bits.{bitAnd}
 use borrow.Author.Tests.{ltb-true, lt-ltb, le-ltb, le-leb, lt-leb, eq-eqb, ne-eqb}
-use Rattle.reading.specs.Texts.{Text, same, member}
-use Rattle.reading.specs.Lines.{Line, linesOf}
-use Rattle.reading.specs.Records.{namesRole, fieldsWhere, rolesIn}
-use Rattle.reading.specs.Refusals.{accepted, readingOf}
-use Rattle.reading.specs.Listings.{Listing, recordsOf, listingIn, listingOf}
+use Rattle.text.specs.Texts.{Text, same, member, indexOf}
+use Rattle.text.specs.Lines.{Line, linesOf}
+use Rattle.listings.specs.Listings.{Listing}
 use Rattle.reading.specs.Sets.{setOf, digit}
-use Rattle.reading.specs.Tables.{indexOf}
-use Rattle.reading.proofs.Truths.{never, not-so, and-left, and-right}
-use Rattle.reading.proofs.Spans.{same-equal, same-self}
-use Rattle.reading.proofs.Plainly.{member-append}
-use Rattle.reading.proofs.Countings.{index-member}
-use Rattle.reading.proofs.Indices.{Once, once-distinct, index-here, member-at, stands}
+use Rattle.text.proofs.Truths.{never, not-so, and-left, and-right}
+use Rattle.text.proofs.Spans.{same-equal, same-self}
+use Rattle.text.proofs.Indices.{index-member, Once, index-here, member-at, stands}
+use Rattle.listings.proofs.Plainly.{member-append}
 use Rattle.reading.proofs.Digits.{set-same, set-and, set-none, set-with, digit-set}
-use Rattle.reading.proofs.Sound.{sound-few}
-use Rattle.reading.proofs.Loads.{accepted-sound}
 use Rattle.deciding.specs.Requests.{Caller, nobody, holder, isHeld, allHeld, mostNames, namesIn, callerOf}
 use Rattle.deciding.specs.Gatherings.{anyName}
 use Rattle.deciding.specs.Holdings.{heldSet, withRole, heldFrom, heldBy}
 use Rattle.deciding.specs.declared.callers.Held.{Held}
 use Rattle.deciding.specs.declared.callers.Held.the-variants.{Bad, Nobody, Roles}
-
--- ---- the roles of a listing
--- they stand once each
-pub roles-once : (s : Text) → Once (listingOf s .roles)
-unfolding listingOf listingIn rolesIn
-roles-once s = once-distinct (fieldsWhere namesRole (recordsOf s))
-
--- those of an accepted one are at most 32
-pub roles-few : (s : Text) → readingOf s ≡ accepted → length (listingOf s .roles) ≤ 32
-unfolding listingOf listingIn
-roles-few s a = sound-few (recordsOf s) (accepted-sound s a) .roles
 
 -- ---- names
 -- where a name among others passes a test, one of them does

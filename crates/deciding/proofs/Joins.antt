@@ -12,16 +12,13 @@ use lib.Seq.{take-length}
 use lib.Dec.{eqb, ltb}
 use lib.Bits.{bitOr}
 use borrow.Author.Tests.{le-ltb, not-true}
-use Rattle.reading.specs.Texts.{Text, bytes, same, member, run}
-use Rattle.reading.specs.Listings.{Constrained, Listing, Rule, covers, closes, admits, rulesOf, isEmpty}
+use Rattle.text.specs.Texts.{Text, bytes, same, member, run, indexOf}
+use Rattle.listings.specs.Listings.{Constrained, Listing, Rule, covers, closes, rulesOf, isEmpty, patternsOf}
 use Rattle.reading.specs.Sets.{setOf, digit}
-use Rattle.reading.specs.Tables.{indexOf}
-use Rattle.reading.specs.Views.{patternsOf, coverSet, admitSet, accessOf, coverAt, accessAt}
+use Rattle.reading.specs.Views.{coverSet, admitSet, accessOf, coverAt, accessAt, admits}
 use Rattle.reading.specs.declared.held.Access.the-variants as K
-use Rattle.reading.proofs.Truths.{never, not-so, and-left, and-right, or-left, or-right}
-use Rattle.reading.proofs.Countings.{index-member}
-use Rattle.reading.proofs.Regions.{index-bound}
-use Rattle.reading.proofs.Indices.{index-here}
+use Rattle.text.proofs.Truths.{never, not-so, and-left, and-right, or-left, or-right}
+use Rattle.text.proofs.Indices.{index-member, index-bound, index-here}
 use Rattle.reading.proofs.Digits.{set-same, digit-set, set-or, set-none}
 use Rattle.reading.proofs.Accepted.{Proper}
 use Rattle.deciding.specs.Requests.{Caller, nobody, holder, callerOf}

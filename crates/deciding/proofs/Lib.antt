@@ -1,6 +1,8 @@
 -- The laws and the theorems of deciding:
 --   Bests      matching in plain words, and the best match
+--   Extensions an extension in plain words
 --   Promises   what the customer is promised
+--   Exactly    when each refusal is given
 --   Cases      01's worked requests 1 to 11
 --   Takings    what a loop over the `pattern` lines gathers
 --   Strengths  the best match by a number for each pattern text
@@ -13,7 +15,9 @@
 --   Joins      what the code joins gives Decisions' answer
 --   Calls      what the functions of the whole call hand to each other
 pub mod Bests
+pub mod Extensions
 pub mod Promises
+pub mod Exactly
 pub mod Cases
 pub mod Takings
 pub mod Strengths

@@ -8,15 +8,14 @@ use lib.ListN.{length, take, drop, getD}
 use lib.Seq.{take-all, length-take-le}
 use lib.Dec.{ltb, eqb, eqb·suc-zero, eqb·suc-suc}
 use borrow.Author.Tests.{ltb-true, ltb-false, eq-eqb, ne-eqb, eqb-true, eqb-false, not-false}
-use Rattle.reading.specs.Texts.{Text, bytes, slash, dot, same, has, startsWith, endsWith, part, run}
-use Rattle.reading.specs.Patterns.{PatternKind, exact, prefix, extension, default, refused, isExtension, kindOf}
-use Rattle.reading.specs.Listings.{listingOf}
-use Rattle.reading.specs.Tables.{Holds}
-use Rattle.reading.specs.Views.{patternsOf}
+use Rattle.text.specs.Texts.{Text, bytes, slash, dot, same, has, startsWith, endsWith, part, run}
+use Rattle.listings.specs.Patterns.{PatternKind, exact, prefix, extension, default, refused, isExtension, kindOf}
+use Rattle.listings.specs.Listings.{listingOf, patternsOf}
+use Rattle.reading.specs.Holds.{Holds}
 use Rattle.reading.specs.declared.tables.Tally.{Tally}
-use Rattle.reading.proofs.Truths.{never, not-so}
-use Rattle.reading.proofs.Spans.{ends-short, from-on}
-use Rattle.reading.proofs.Namings.{starts-long}
+use Rattle.text.proofs.Truths.{never, not-so}
+use Rattle.text.proofs.Spans.{ends-short, from-on}
+use Rattle.listings.proofs.Namings.{starts-long}
 use Rattle.deciding.specs.Matching.{afterLast, lastSegment, hasExtension, isUnder, kindMatches}
 use Rattle.deciding.specs.Strengths.{Ends, kindStrength, strength, rootedStrength, starredStrength, startLeading, lead, leading}
 use Rattle.deciding.specs.declared.decisions.Leading.{Leading}

@@ -9,20 +9,19 @@ use native.Mathlib.Omega.{arith}
 use lib.ListN.{length, drop}
 use lib.Dec.{leb}
 use borrow.Author.Tests.{le-ltb}
-use Rattle.reading.specs.Texts.{Text, bytes, member}
-use Rattle.reading.specs.Records.{isStar}
-use Rattle.reading.specs.Lines.{Line, linesOf}
-use Rattle.reading.specs.Refusals.{Reading, accepted, refusal, readingOf}
-use Rattle.reading.specs.Listings.{Constrained, Listing, isEmpty, closes, listingOf}
-use Rattle.reading.specs.Views.{patternsOf}
+use Rattle.text.specs.Texts.{Text, bytes, member}
+use Rattle.listings.specs.Records.{isStar}
+use Rattle.text.specs.Lines.{Line, linesOf}
+use Rattle.listings.specs.Refusals.{Reading, accepted, refusal, readingOf}
+use Rattle.listings.specs.Listings.{Constrained, Listing, isEmpty, closes, listingOf, patternsOf}
 use Rattle.reading.specs.Outcomes.{workSize, isShort, workAfter}
-use Rattle.reading.proofs.Truths.{never}
-use Rattle.reading.proofs.Plainly.{member-plain}
+use Rattle.text.proofs.Truths.{never}
+use Rattle.listings.proofs.Plainly.{member-plain}
 use Rattle.reading.proofs.Unique.{work-same}
 use Rattle.deciding.specs.Matching.{best}
 use Rattle.deciding.specs.Requests.{Caller, nobody, holder, allHeld, mostNames, namesIn, holderOf, callerOf, isPath, isMethod, Extends, Request}
 use Rattle.deciding.specs.Decisions.{taken, Combined, combinedOpen, combinedClosed, union, rolesOf, combine, combinedAt, combinedFor, meets, answerTo, decide, isGrant, answerNumber}
-use Rattle.deciding.specs.Outcomes.{refused, answered, isGranted, Asked, decideCaller, decideListing, decisionOf, DecideOutcome}
+use Rattle.deciding.specs.Outcomes.{refused, answered, isGranted, Asked, decideCaller, decideListing, decisionOf, DecideOutcome, requestFor, Granted}
 use Rattle.deciding.specs.declared.answers.Answer.{Answer}
 use Rattle.deciding.specs.declared.answers.Answer.the-variants.{Open, ByRole, Closed, LoginWanted, RoleLacking}
 use Rattle.deciding.specs.declared.answers.Decision.{Decision}
@@ -95,19 +94,6 @@ callers-extend (suc zero) zero names names′ c d e f h i = absurd (omega arith)
 callers-extend (suc zero) (suc zero) names names′ c d e f h i = rw (holder-names (linesOf names) c e, holder-names (linesOf names′) d f) i
 callers-extend (suc zero) (suc (suc k)) names names′ c d e f h i = absurd (Option·none-ne-some d f)
 callers-extend (suc (suc k)) login′ names names′ c d e f h i = absurd (Option·none-ne-some c e)
-
--- what is asked, for a caller
-abbrev pub requestFor : Asked → Caller → Request
-requestFor a c = record { path = a .path; method = a .method; caller = c }
-
--- nothing is refused, and the answer is a grant
-pub record Granted (a : Asked) : Type 0 where
-  pub reads : readingOf (a .listing) ≡ accepted
-  pub path : isPath (a .path) ≡ true
-  pub method : isMethod (a .method) ≡ true
-  pub caller : Caller
-  pub called : callerOf (a .login) (a .names) ≡ some caller
-  pub grant : isGrant (decide (listingOf (a .listing)) (requestFor a caller)) ≡ true
 
 module _ (a : Asked) (w : List ℕ) where
   -- the answer's number is a grant's, so nothing is refused

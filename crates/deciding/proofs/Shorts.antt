@@ -4,10 +4,9 @@ use Prim.Native.Nat.{ℕ, _≤_, _<_}
 use native.Mathlib.Decide.{decLt}
 use native.Mathlib.Omega.{arith}
 use lib.ListN.{length, getD, List·getD-eq-default}
-use Rattle.reading.specs.Texts.{Text}
-use Rattle.reading.specs.Listings.{listingOf}
-use Rattle.reading.specs.Tables.{Holds}
-use Rattle.reading.specs.Views.{patternsOf}
+use Rattle.text.specs.Texts.{Text}
+use Rattle.listings.specs.Listings.{listingOf, patternsOf}
+use Rattle.reading.specs.Holds.{Holds}
 use Rattle.reading.specs.declared.tables.Tally.{Tally}
 use Rattle.reading.proofs.Accepted.{Proper, accepted-proper}
 use Rattle.deciding.proofs.Strengths.{at-listed}

@@ -10,10 +10,10 @@ use lib.ListN.{length, getD, length-append, List·getD-append}
 use lib.Seq.{append-snoc, getD-at}
 use lib.Dec.{eqb, ltb}
 use borrow.Author.Tests.{lt-ltb, le-ltb, ltb-true, ltb-false, eqb-true, eqb-false}
-use Rattle.reading.specs.Texts.{Text, bytes, run}
-use Rattle.reading.specs.Patterns.{PatternKind, exact, prefix, extension, default, refused, kindOf}
-use Rattle.reading.proofs.Truths.{never}
-use Rattle.reading.proofs.Plainly.{Shape, shape}
+use Rattle.text.specs.Texts.{Text, bytes, run}
+use Rattle.listings.specs.Patterns.{PatternKind, exact, prefix, extension, default, refused, kindOf}
+use Rattle.text.proofs.Truths.{never}
+use Rattle.listings.proofs.Plainly.{Shape, shape}
 use Rattle.deciding.specs.Matching.{kindMatches, matches, rank, size, isBetter, best}
 use Rattle.deciding.specs.Strengths.{kindStrength, strength, startLeading, lead, leading, bestLine}
 use Rattle.deciding.specs.declared.decisions.Leading.{Leading}

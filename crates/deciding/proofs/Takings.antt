@@ -7,16 +7,17 @@ use Prim.Native.Nat.{ℕ, _+_, _<_}
 use native.Mathlib.Numerals.{add-one}
 use lib.ListN.{length, take, getD}
 use lib.Seq.{take-suc}
-use Rattle.reading.specs.Texts.{Text, bytes, same, member, run}
-use Rattle.reading.specs.Records.{isStar}
-use Rattle.reading.specs.Listings.{Collected, Constrained, Listing, Rule, covers, closes, admits, rulesInCollection, rulesInConstraint, rulesOf}
-use Rattle.reading.proofs.Spans.{same-equal}
-use Rattle.reading.proofs.Plainly.{same-swap, member-append}
-use Rattle.reading.proofs.Countings.{run-snoc}
+use Rattle.text.specs.Texts.{Text, bytes, same, member, run}
+use Rattle.listings.specs.Records.{isStar}
+use Rattle.listings.specs.Listings.{Collected, Constrained, Listing, Rule, covers, closes, rulesInCollection, rulesInConstraint, rulesOf}
+use Rattle.text.proofs.Spans.{same-equal}
+use Rattle.text.proofs.Indices.{run-snoc}
+use Rattle.listings.proofs.Plainly.{same-swap, member-append}
 use Rattle.deciding.specs.Requests.{Caller, nobody, holder}
 use Rattle.deciding.specs.Decisions.{isTaken, taken, Combined, combinedOpen, combinedClosed, union, anyOf, rolesOf, combine, combinedAt, meets, answerTo}
 use Rattle.deciding.specs.Gatherings.{isFor, Gathered, nothingGathered, withConstraint, withRule, gathered, anyName, roleAnswer, gatheredAnswer}
 use Rattle.deciding.specs.declared.answers.Answer.the-variants.{Open, ByRole, Closed, RoleLacking}
+use Rattle.reading.specs.Views.{admits}
 
 -- ---- a constraint is taken where one of its rules is for the pattern text and the method
 -- one of the rules passes

@@ -10,9 +10,9 @@ use lib.ListN.{getD}
 use lib.Dec.{eqb}
 use lib.Bits.{bitAnd, bitOr}
 use borrow.Author.Tests.{ne-eqb, not-true, not-false}
-use Rattle.reading.specs.Texts.{Text, same}
-use Rattle.reading.specs.Listings.{Listing}
-use Rattle.reading.specs.Views.{patternsOf, coverAt, accessAt}
+use Rattle.text.specs.Texts.{Text, same}
+use Rattle.listings.specs.Listings.{Listing, patternsOf}
+use Rattle.reading.specs.Views.{coverAt, accessAt}
 use Rattle.reading.specs.declared.held.Access.{Access}
 use Rattle.reading.specs.declared.held.Access.the-variants as K
 use Rattle.deciding.specs.Joinings.{joinWith, isLineFor, joinedUpTo, joinedAnswer}

@@ -3,10 +3,8 @@ use mathlib.Core.Bool.{cond}
 use mathlib.Core.List.{[]}
 use lib.ListN.{length, getD}
 use lib.Dec.{eqb}
-use Rattle.reading.specs.Texts.{Text}
-use Rattle.reading.specs.Listings.{Listing}
-use Rattle.reading.specs.Tables.{indexOf}
-use Rattle.reading.specs.Views.{patternsOf}
+use Rattle.text.specs.Texts.{Text, indexOf}
+use Rattle.listings.specs.Listings.{Listing, patternsOf}
 use Rattle.deciding.specs.Strengths.{leading}
 use Rattle.deciding.specs.Joinings.{joinedUpTo, joinedAnswer}
 use Rattle.deciding.specs.declared.answers.Answer.{Answer}

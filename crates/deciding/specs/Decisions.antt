@@ -3,10 +3,9 @@ use Prim.Native.Nat.{ℕ}
 use mathlib.Core.Bool.{Bool, true, false, not, cond, _&&_, _||_}
 use mathlib.Core.List.{List, [], _∷_, _++_, flatMap}
 use mathlib.Core.Option.{Option, none, some}
-use Rattle.reading.specs.Texts.{Text, member}
-use Rattle.reading.specs.Records.{isStar}
-use Rattle.reading.specs.Listings.{Collected, Constrained, Listing, covers, closes}
-use Rattle.reading.specs.Views.{patternsOf}
+use Rattle.text.specs.Texts.{Text, member}
+use Rattle.listings.specs.Records.{isStar}
+use Rattle.listings.specs.Listings.{Collected, Constrained, Listing, covers, closes, patternsOf}
 use Rattle.deciding.specs.Matching.{best}
 use Rattle.deciding.specs.Requests.{Caller, nobody, holder, Request}
 use Rattle.deciding.specs.declared.answers.Answer.{Answer}

@@ -1,11 +1,12 @@
 -- The answer of a listing from its rules, one `pattern` line after the other: for the proofs alone, which show that it is Decisions' answer.
 use mathlib.Core.Bool.{Bool, true, false, not, cond, _&&_, _||_}
 use mathlib.Core.List.{List, [], _∷_}
-use Rattle.reading.specs.Texts.{Text, same, run}
-use Rattle.reading.specs.Listings.{Constrained, Listing, Rule, covers, closes, admits, rulesOf}
+use Rattle.text.specs.Texts.{Text, same, run}
+use Rattle.listings.specs.Listings.{Constrained, Listing, Rule, covers, closes, rulesOf}
 use Rattle.deciding.specs.Requests.{Caller, nobody, holder}
 use Rattle.deciding.specs.declared.answers.Answer.{Answer}
 use Rattle.deciding.specs.declared.answers.Answer.the-variants.{Open, ByRole, Closed, LoginWanted, RoleLacking}
+use Rattle.reading.specs.Views.{admits}
 
 -- the rule has that pattern text and covers the method
 unfoldable pub isFor : Text → Text → Rule → Bool

@@ -4,11 +4,10 @@ use mathlib.Core.Bool.{Bool, true, false, cond, _&&_}
 use mathlib.Core.List.{List, [], _∷_}
 use lib.ListN.{length, getD}
 use lib.Dec.{leb, ltb}
-use Rattle.reading.specs.Texts.{Text, member}
-use Rattle.reading.specs.Lines.{Line, linesOf}
-use Rattle.reading.specs.Listings.{Listing}
+use Rattle.text.specs.Texts.{Text, member, indexOf}
+use Rattle.text.specs.Lines.{Line, linesOf}
+use Rattle.listings.specs.Listings.{Listing}
 use Rattle.reading.specs.Sets.{setOf, withMember}
-use Rattle.reading.specs.Tables.{indexOf}
 use Rattle.deciding.specs.Requests.{isHeld, mostNames}
 use Rattle.deciding.specs.declared.callers.Held.{Held}
 use Rattle.deciding.specs.declared.callers.Held.the-variants.{Bad, Nobody, Roles}

@@ -5,10 +5,10 @@ use mathlib.Core.List.{List, []}
 use lib.ListN.{length, getD}
 use lib.Dec.{eqb}
 use lib.Bits.{bitAnd, bitOr}
-use Rattle.reading.specs.Texts.{Text, same}
-use Rattle.reading.specs.Listings.{Listing}
+use Rattle.text.specs.Texts.{Text, same}
+use Rattle.listings.specs.Listings.{Listing, patternsOf}
 use Rattle.reading.specs.Sets.{digit}
-use Rattle.reading.specs.Views.{patternsOf, coverAt, accessAt}
+use Rattle.reading.specs.Views.{coverAt, accessAt}
 use Rattle.reading.specs.declared.held.Access.{Access}
 use Rattle.reading.specs.declared.held.Access.the-variants.{Open, Closed, ByRole}
 use Rattle.deciding.specs.declared.answers.Answer.{Answer}

@@ -3,6 +3,7 @@
 --   Requests   what a request has to be, and who the caller is
 --   Decisions  which constraints are taken, what they come to together, and the answer
 --   Outcomes   what a call hands back
+--   Rules      its refusals in plain form, row by row
 -- The next are for the proofs alone, and no public statement rests on a reader's believing them:
 --   Strengths  the best match by a number for each pattern text
 --   Gatherings the answer from the rules, one `pattern` line after the other
@@ -13,6 +14,7 @@ pub mod Matching
 pub mod Requests
 pub mod Decisions
 pub mod Outcomes
+pub mod Rules
 pub mod Strengths
 pub mod Gatherings
 pub mod Holdings

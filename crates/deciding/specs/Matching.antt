@@ -6,8 +6,8 @@ use mathlib.Core.List.{List, [], _∷_, _++_, List·Memᴰ}
 use mathlib.Core.Option.{Option, none, some}
 use lib.ListN.{length}
 use lib.Dec.{eqb, ltb}
-use Rattle.reading.specs.Texts.{Text, bytes, slash, dot, same, has, startsWith}
-use Rattle.reading.specs.Patterns.{PatternKind, exact, prefix, extension, default, refused, kindOf}
+use Rattle.text.specs.Texts.{Text, bytes, slash, dot, same, has, startsWith}
+use Rattle.listings.specs.Patterns.{PatternKind, exact, prefix, extension, default, refused, kindOf}
 
 -- ---- matching
 -- what follows the last b in t, or keep where it has none

@@ -5,12 +5,12 @@ use mathlib.Core.Bool.{Bool, true, false, cond, _||_}
 use mathlib.Core.List.{List}
 use mathlib.Core.Option.{Option, none, some}
 use lib.Dec.{eqb}
-use Rattle.reading.specs.Texts.{Text}
-use Rattle.reading.specs.Refusals.{Reading, accepted, refusal, numberOf, readingOf}
-use Rattle.reading.specs.Listings.{Listing, listingOf}
+use Rattle.text.specs.Texts.{Text}
+use Rattle.listings.specs.Refusals.{Reading, accepted, refusal, numberOf, shortTable, badPath, badMethod, badCaller, readingOf}
+use Rattle.listings.specs.Listings.{Listing, listingOf}
 use Rattle.reading.specs.Outcomes.{isShort, workAfter}
 use Rattle.deciding.specs.Requests.{Caller, Request, isPath, isMethod, callerOf}
-use Rattle.deciding.specs.Decisions.{decide, answerNumber}
+use Rattle.deciding.specs.Decisions.{decide, isGrant, answerNumber}
 use Rattle.deciding.specs.declared.answers.Decision.{Decision}
 
 -- a refusal's answer is 0
@@ -36,15 +36,15 @@ abbrev pub asked : Text → Text → Text → ℕ → Text → Asked
 asked listing path method login names = record { listing = listing; path = path; method = method; login = login; names = names }
 
 abbrev pub decideCaller : Asked → Option Caller → Decision
-decideCaller a none = refused 13 0 0
+decideCaller a none = refused badCaller 0 0
 decideCaller a (some c) = answered (answerNumber (decide (listingOf (a .listing)) (record { path = a .path; method = a .method; caller = c })))
 
 -- 11, 12 and 13 behind the listing's own
 abbrev pub decideRequest : Asked → Decision
 decideRequest a =
     cond (isPath (a .path))
-    (cond (isMethod (a .method)) (decideCaller a (callerOf (a .login) (a .names))) (refused 12 0 0))
-    (refused 11 0 0)
+    (cond (isMethod (a .method)) (decideCaller a (callerOf (a .login) (a .names))) (refused badMethod 0 0))
+    (refused badPath 0 0)
 
 abbrev pub decideListing : Asked → Reading → Decision
 decideListing a accepted = decideRequest a
@@ -52,9 +52,23 @@ decideListing a (refusal f n) = refused (numberOf f) 1 n
 
 unfoldable pub decisionOf : Asked → List ℕ → Decision
 unfolding readingOf isPath callerOf decide listingOf
-decisionOf a w = cond (isShort w) (refused 1 0 0) (decideListing a (readingOf (a .listing)))
+decisionOf a w = cond (isShort w) (refused shortTable 0 0) (decideListing a (readingOf (a .listing)))
 
 -- the whole outcome of the call: what is handed back, and the work table after it
 pub record DecideOutcome (a : Asked) (w : List ℕ) (handed : Decision) (left : List ℕ) : Type 0 where
   pub decision : handed ≡ decisionOf a w
   pub work : left ≡ workAfter w
+
+-- ---- what the theorems say
+-- what is asked, for a caller
+abbrev pub requestFor : Asked → Caller → Request
+requestFor a c = record { path = a .path; method = a .method; caller = c }
+
+-- nothing is refused, and the answer is a grant
+pub record Granted (a : Asked) : Type 0 where
+  pub reads : readingOf (a .listing) ≡ accepted
+  pub path : isPath (a .path) ≡ true
+  pub method : isMethod (a .method) ≡ true
+  pub caller : Caller
+  pub called : callerOf (a .login) (a .names) ≡ some caller
+  pub grant : isGrant (decide (listingOf (a .listing)) (requestFor a caller)) ≡ true

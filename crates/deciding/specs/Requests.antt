@@ -5,10 +5,10 @@ use mathlib.Core.List.{List, [], _∷_, map, List·Memᴰ}
 use mathlib.Core.Option.{Option, none, some}
 use lib.ListN.{length}
 use lib.Dec.{leb}
-use Rattle.reading.specs.Texts.{Text, bytes, all, startsWith}
-use Rattle.reading.specs.Bytes.{isText}
-use Rattle.reading.specs.Names.{madeOf, isRoleName, isMethodName}
-use Rattle.reading.specs.Lines.{Line, linesOf}
+use Rattle.text.specs.Texts.{Text, bytes, all, startsWith}
+use Rattle.text.specs.Bytes.{isText}
+use Rattle.listings.specs.Names.{madeOf, isRoleName, isMethodName}
+use Rattle.text.specs.Lines.{Line, linesOf}
 
 -- ---- the path and the method
 unfoldable pub isPath : Text → Bool

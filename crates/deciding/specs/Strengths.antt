@@ -6,8 +6,8 @@ use mathlib.Core.List.{List}
 use mathlib.Core.Option.{Option, none, some}
 use lib.ListN.{length, take, drop}
 use lib.Dec.{eqb, ltb}
-use Rattle.reading.specs.Texts.{Text, bytes, dot, same, has, startsWith, endsWith, run}
-use Rattle.reading.specs.Patterns.{PatternKind, exact, prefix, extension, default, refused, isExtension, kindOf}
+use Rattle.text.specs.Texts.{Text, bytes, dot, same, has, startsWith, endsWith, run}
+use Rattle.listings.specs.Patterns.{PatternKind, exact, prefix, extension, default, refused, isExtension, kindOf}
 use Rattle.deciding.specs.Matching.{afterLast, lastSegment, hasExtension, isUnder, kindMatches, matches}
 use Rattle.deciding.specs.declared.decisions.Leading.{Leading}
 use Rattle.deciding.specs.declared.matching.Ending.{Ending}

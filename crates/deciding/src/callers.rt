@@ -2,15 +2,15 @@
 ghost use mathlib.Core.Path.{_≡_};
 ghost use Prim.Native.Nat.{_≤_, _<_};
 ghost use lib.ListN.{length};
-ghost use Rattle.reading.specs.Bytes.{classTable};
-ghost use Rattle.reading.specs.Lines.{linesOf};
-ghost use Rattle.reading.specs.Listings.{listingOf};
-ghost use Rattle.reading.specs.Tables.{Holds};
+ghost use Rattle.text.specs.Bytes.{classTable};
+ghost use Rattle.text.specs.Lines.{linesOf};
+ghost use Rattle.listings.specs.Listings.{listingOf};
+ghost use Rattle.reading.specs.Holds.{Holds};
 ghost use Rattle.deciding.specs.Holdings.{heldBy, heldFrom, withRole};
+use listings::names;
 use reading::held;
-use reading::names;
 use reading::tables::Tally;
-use reading::texts;
+use text::texts;
 
 // A caller as the listing sees it: bad, not logged in, or logged in with those of the listing's roles, as the digits of a number.
 pub enum Held {

@@ -2,10 +2,10 @@
 ghost use mathlib.Core.Path.{_≡_};
 ghost use Prim.Native.Nat.{_≤_};
 ghost use lib.ListN.{length};
-ghost use Rattle.reading.specs.Listings.{listingOf};
+ghost use Rattle.listings.specs.Listings.{listingOf};
 ghost use Rattle.reading.specs.Outcomes.{zeroed};
-ghost use Rattle.reading.specs.Refusals.{readingOf};
-ghost use Rattle.reading.specs.Tables.{Holds, LoadOutcome};
+ghost use Rattle.listings.specs.Refusals.{readingOf};
+ghost use Rattle.reading.specs.Holds.{Holds, LoadOutcome};
 ghost use Rattle.deciding.specs.Outcomes.{asked, DecideOutcome, decideListing, decideRequest};
 ghost use Rattle.deciding.specs.Deciders.{answerFor};
 use crate::answers;
@@ -15,13 +15,17 @@ use crate::callers;
 use crate::callers::Held;
 use crate::decisions;
 use crate::matching;
-use reading::answers::number;
-use reading::bytes;
+use listings::answers::BAD_CALLER;
+use listings::answers::BAD_METHOD;
+use listings::answers::BAD_PATH;
+use listings::answers::SHORT_TABLE;
+use listings::answers::number;
+use listings::names;
 use reading::held;
-use reading::names;
 use reading::reader;
 use reading::reader::Loaded;
 use reading::tables::Tally;
+use text::bytes;
 
 // A refusal, whose answer is 0.
 pub fn refuse(number: u32, side: u32, line: u32) -> Decision
@@ -66,14 +70,14 @@ pub fn decide_held(
 {
     let table = bytes::classes();
     if !matching::is_path(&table, path) {
-        return refuse(11, 0, 0);
+        return refuse(BAD_PATH, 0, 0);
     }
     if !names::is_method_name(&table, method) {
-        return refuse(12, 0, 0);
+        return refuse(BAD_METHOD, 0, 0);
     }
     let h = callers::caller(&table, s, w, t, login, names);
     if let Held::Bad = h {
-        return refuse(13, 0, 0);
+        return refuse(BAD_CALLER, 0, 0);
     }
     let a = answer_for(s, w, t, path, method, h);
     Decision {
@@ -137,7 +141,7 @@ pub extern "C" fn budquarry_decide(
     ensures { λ r. ⌜ DecideOutcome (asked (now (listing .entry)) (now (path .entry)) (now (method .entry)) login (now (roles .entry))) (now (work .entry)) r (now (work .exit)) ⌝ }
 {
     if work.len() < reader::WORK {
-        return refuse(1, 0, 0);
+        return refuse(SHORT_TABLE, 0, 0);
     }
     decide_with(listing, path, method, login, roles, work, reader::WORK)
 }

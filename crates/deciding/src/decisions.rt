@@ -3,9 +3,8 @@ ghost use mathlib.Core.Path.{_≡_};
 ghost use mathlib.Core.List.{[]};
 ghost use Prim.Native.Nat.{_≤_, _<_};
 ghost use lib.ListN.{length, getD};
-ghost use Rattle.reading.specs.Listings.{listingOf};
-ghost use Rattle.reading.specs.Tables.{Holds};
-ghost use Rattle.reading.specs.Views.{patternsOf};
+ghost use Rattle.listings.specs.Listings.{listingOf, patternsOf};
+ghost use Rattle.reading.specs.Holds.{Holds};
 ghost use Rattle.deciding.specs.Strengths.{Ends, lead, leading};
 ghost use Rattle.deciding.specs.Joinings.{joinWith, isLineFor, joinedUpTo, joinedAnswer};
 use crate::answers::Answer;
@@ -15,7 +14,7 @@ use crate::matching::Ending;
 use reading::held;
 use reading::held::Access;
 use reading::tables::Tally;
-use reading::texts;
+use text::texts;
 
 // While the patterns are gone through: how many are, the line of the first of the strongest, and its strength, 0 where none matches.
 pub struct Leading {

@@ -2,12 +2,12 @@
 ghost use mathlib.Core.Path.{_≡_};
 ghost use Prim.Native.Nat.{_≤_};
 ghost use lib.ListN.{length};
-ghost use Rattle.reading.specs.Bytes.{classTable};
+ghost use Rattle.text.specs.Bytes.{classTable};
 ghost use Rattle.deciding.specs.Matching.{isUnder};
 ghost use Rattle.deciding.specs.Requests.{isPath};
 ghost use Rattle.deciding.specs.Strengths.{Ends, strength, rootedStrength, starredStrength};
-use reading::names;
-use reading::texts;
+use listings::names;
+use text::texts;
 
 // Whether p is a path: 1 to 1,024 text bytes, the first '/'.
 pub fn is_path(table: &[u8; 256], p: &[u8]) -> bool

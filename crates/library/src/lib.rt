@@ -6,7 +6,7 @@ use comparing::answers::Comparison;
 use comparing::comparer;
 use deciding::answers::Decision;
 use deciding::decider;
-use reading::answers::Report;
+use listings::answers::Report;
 use reading::reader;
 
 #[no_mangle]

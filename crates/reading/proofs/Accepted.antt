@@ -9,24 +9,23 @@ use lib.ListN.{length}
 use lib.Dec.{leb}
 use borrow.Author.Tests.{leb-true}
 use native.Mathlib.Omega.{arith}
-use Rattle.reading.specs.Texts.{Text, bytes, same, all, member, known, run, onLast}
-use Rattle.reading.specs.Records.{Record, isKind, isStar, namesRole, namesMethod, fieldsWhere, declaredIn, rolesIn, methodsIn}
-use Rattle.reading.specs.Bytes.{between, isText, isToken}
-use Rattle.reading.specs.Names.{madeOf, isName, isRoleName, isMethodName, isPattern, nameFits, patternFits}
-use Rattle.reading.specs.Limits.{count}
-use Rattle.reading.specs.Refusals.{accepted, readingOf}
-use Rattle.reading.specs.Listings.{Collected, Constrained, Listing, Rule, adds, constraintsIn, listingIn, recordsOf, listingOf, rulesInCollection, rulesInConstraint, rulesOf, newConstraint, addAllowed, addCollection, addPattern, addMethod, addOmitted, inCollection}
-use Rattle.reading.specs.Views.{patternsOf}
+use Rattle.text.specs.Texts.{Text, bytes, same, all, member, known, run, onLast}
+use Rattle.listings.specs.Records.{Record, isKind, isStar, namesRole, namesMethod, fieldsWhere, declaredIn, rolesIn, methodsIn}
+use Rattle.text.specs.Bytes.{between, isText, isToken}
+use Rattle.listings.specs.Names.{madeOf, isName, isRoleName, isMethodName, isPattern, nameFits, patternFits}
+use Rattle.listings.specs.Limits.{count}
+use Rattle.listings.specs.Refusals.{accepted, readingOf}
+use Rattle.listings.specs.Listings.{Collected, Constrained, Listing, Rule, adds, constraintsIn, listingIn, recordsOf, listingOf, rulesInCollection, rulesInConstraint, rulesOf, newConstraint, addAllowed, addCollection, addPattern, addMethod, addOmitted, inCollection, patternsOf}
 use Rattle.reading.specs.Tables.{tablesOf}
-use Rattle.reading.specs.declared.records.Kind.{Kind}
-use Rattle.reading.specs.declared.records.Kind.the-variants.{Role, Constraint, Allow, Collection, Pattern, Method, Omit, End}
-use Rattle.reading.proofs.Truths.{and-left, and-right}
-use Rattle.reading.proofs.Countings.{run-snoc, roles-snoc, methods-snoc}
-use Rattle.reading.proofs.Sound.{Sound, sound-none, sound-more, Passes, Few, sound-few}
+use Rattle.listings.specs.declared.records.Kind.{Kind}
+use Rattle.listings.specs.declared.records.Kind.the-variants.{Role, Constraint, Allow, Collection, Pattern, Method, Omit, End}
+use Rattle.text.proofs.Truths.{and-left, and-right}
+use Rattle.reading.proofs.Countings.{roles-snoc, methods-snoc}
+use Rattle.listings.proofs.Sound.{Sound, sound-none, sound-more, Passes, Few, sound-few}
 use Rattle.reading.proofs.Keeping.{Kept, kept}
-use Rattle.reading.proofs.Indices.{Once, once-distinct}
-use Rattle.reading.proofs.Plainly.{member-append, member-plain}
-use Rattle.reading.proofs.Spans.{same-self}
+use Rattle.listings.proofs.Plainly.{member-append, member-plain}
+use Rattle.text.proofs.Spans.{same-self}
+use Rattle.text.proofs.Indices.{run-snoc, Once, once-distinct}
 use Rattle.reading.proofs.Rulings.{Pictures, pictures}
 use Rattle.reading.proofs.Loads.{accepted-sound}
 

@@ -1,23 +1,19 @@
 -- One record more: what it changes in the counts and the names of the records, and in the tables.
-use mathlib.Core.Path.{_≡_, refl, ap, _∙_}
-use mathlib.Core.Bool.{Bool, true, false, cond, _||_}
-use mathlib.Core.List.{List, [], _∷_, _++_}
-use Prim.Native.Nat.{suc}
-use lib.ListN.{length}
-use lib.Dec.{ltb, leb·zero, leb·suc-suc}
-use Rattle.reading.specs.Texts.{Text, same, member, known, run, distinct, onLast}
-use Rattle.reading.specs.Records.{Record, placeOf, placeAfter, isKind, fieldsWhere, namesRole, namesMethod, declaredIn, rolesIn, methodsIn}
-use Rattle.reading.specs.Limits.{count}
-use Rattle.reading.specs.Tables.{startTables, indexOf, indexed, tablesWith, tablesOf}
-use Rattle.reading.specs.declared.records.Kind.{Kind}
-use Rattle.reading.specs.declared.records.Kind.the-variants.{Role}
-
--- ---- lists
--- a run over one element more
-pub run-snoc {ℓ κ} : {S : Type ℓ} {A : Type κ} (f : S → A → S) (z : S) (xs : List A) (x : A) → run f z (xs ++ x ∷ []) ≡ f (run f z xs) x
-unfolding run
-run-snoc f z [] x = refl
-run-snoc f z (y ∷ ys) x = run-snoc f (f z y) ys x
+use mathlib.Core.Path.{_≡_, refl, sym, ap, _∙_}
+use mathlib.Core.Bool.{Bool, true, false, cond}
+use mathlib.Core.List.{List, [], _∷_, _++_, append-assoc}
+use Prim.Native.Nat.{suc, _<_}
+use native.Mathlib.Omega.{arith}
+use lib.ListN.{length, length-append}
+use lib.Dec.{ltb}
+use borrow.Author.Tests.{ltb-true, ltb-false}
+use Rattle.text.specs.Texts.{Text, member, known, run, distinct, onLast, indexOf}
+use Rattle.text.proofs.Indices.{run-snoc, length-snoc, index-bound, index-member, index-front, index-behind, Begins, begins-front}
+use Rattle.listings.specs.Records.{Record, placeOf, placeAfter, isKind, fieldsWhere, namesRole, namesMethod, declaredIn, rolesIn, methodsIn}
+use Rattle.listings.specs.Limits.{count}
+use Rattle.reading.specs.Tables.{startTables, indexed, tablesWith, tablesOf}
+use Rattle.listings.specs.declared.records.Kind.{Kind}
+use Rattle.listings.specs.declared.records.Kind.the-variants.{Role}
 
 -- a change of the last element keeps the number
 pub length-on-last {ℓ} : {A : Type ℓ} (f : A → A) (xs : List A) → length (onLast f xs) ≡ length xs
@@ -26,28 +22,12 @@ length-on-last f [] = refl
 length-on-last f (x ∷ []) = refl
 length-on-last f (x ∷ y ∷ ys) = ap suc (length-on-last f (y ∷ ys))
 
--- one element more is one more
-pub length-snoc {ℓ} : {A : Type ℓ} (xs : List A) (x : A) → length (xs ++ x ∷ []) ≡ suc (length xs)
-length-snoc [] x = refl
-length-snoc (y ∷ ys) x = ap suc (length-snoc ys x)
-
 -- a text more is put behind the distinct ones, unless it is one of them
 pub distinct-snoc : (ts : List Text) (t : Text) → distinct (ts ++ t ∷ []) ≡ known (distinct ts) t
 unfolding distinct
 distinct-snoc ts t = run-snoc known [] ts t
 
--- ---- places among texts
--- a text is one of them where its place is below their number
-pub index-member : (t : Text) (us : List Text) → ltb (indexOf t us) (length us) ≡ member t us
-unfolding indexOf member
-index-member t [] = refl
-index-member t (u ∷ us) = go (same u t) (index-member t us)
-  where
-    go : (b : Bool) → ltb (indexOf t us) (length us) ≡ member t us → ltb (cond b 0 (suc (indexOf t us))) (suc (length us)) ≡ (b || member t us)
-    go true e = leb·suc-suc 0 (length us) ∙ leb·zero (length us)
-    go false e = leb·suc-suc (suc (indexOf t us)) (length us) ∙ e
-
--- so the two ways to put a text behind the others are one
+-- the two ways to put a text behind the others are one
 pub indexed-known : (t : Text) (us : List Text) → indexed t us ≡ known us t
 unfolding indexed known
 indexed-known t us = ap (λ (b : Bool). cond b us (us ++ t ∷ [])) (index-member t us)
@@ -113,3 +93,29 @@ module _ (rs : List Record) (r : Record) where
   pub tables-snoc : tablesOf (rs ++ r ∷ []) ≡ tablesWith (tablesOf rs) r
   unfolding tablesOf
   tables-snoc = run-snoc tablesWith startTables rs r
+
+-- ---- places that are settled
+-- a text put behind them, if it is none of them, has its place for good
+module _ (t : Text) (us ws : List Text) where
+  pub begins-indexed : Begins (indexed t us) ws → Begins us ws
+  unfolding indexed
+  begins-indexed = go (ltb (indexOf t us) (length us))
+    where
+      go : (b : Bool) → Begins (cond b us (us ++ t ∷ [])) ws → Begins us ws
+      go true b = b
+      go false b = begins-front us (t ∷ []) ws b
+
+  pub settled : Begins (indexed t us) ws → (indexOf t us ≡ indexOf t ws) × (indexOf t ws < length ws)
+  unfolding indexed
+  settled = go (ltb (indexOf t us) (length us)) refl
+    where
+      go : (b : Bool) → ltb (indexOf t us) (length us) ≡ b → Begins (cond b us (us ++ t ∷ [])) ws → (indexOf t us ≡ indexOf t ws) × (indexOf t ws < length ws)
+      go true e b =
+          let l = ltb-true (indexOf t us) (length us) e in
+          let f = index-front t us (b .0) l in
+          rw (b .1) (sym f, omega (arith, f, length-append us (b .0)))
+      go false e b =
+          let l = ltb-false (indexOf t us) (length us) e in
+          let f = index-behind t us (b .0) l in
+          rw (b .1, append-assoc us (t ∷ []) (b .0))
+          (omega (arith, f, index-bound t us), omega (arith, f, length-append us (t ∷ b .0)))

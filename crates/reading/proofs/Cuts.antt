@@ -12,16 +12,16 @@ use lib.ListN.{length, take, drop, getD, length-drop, take-append-drop, drop-of-
 use lib.Seq.{getD-drop, drop-cons, drop-drop, take-length, take-all}
 use lib.Dec.{eqb}
 use borrow.Author.Tests.{eq-eqb, ne-eqb, eqb-true}
-use Rattle.reading.specs.Texts.{Text, tab, newline, part}
-use Rattle.reading.specs.Lines.{Line, before, linesOf, inFirst, fieldsOf, toFieldEnd}
-use Rattle.reading.specs.declared.records.Named.{Named}
+use Rattle.text.specs.Texts.{Text, tab, newline, part}
+use Rattle.text.specs.Lines.{Line, before, linesOf, inFirst, fieldsOf, toFieldEnd}
+use Rattle.listings.specs.declared.records.Named.{Named}
 use Rattle.reading.specs.declared.reader.Cursor.{Cursor}
 use Rattle.reading.specs.declared.reader.Lined.{Lined}
 use Rattle.reading.specs.declared.reader.Lined.the-variants.{Moved, Ended, Bad}
-use Rattle.reading.specs.declared.answers.Fault.the-variants.{BadForm}
+use Rattle.listings.specs.declared.answers.Fault.the-variants.{BadForm}
 use Rattle.reading.specs.Tables.{Tables, bad, lineWith, lineFrom, LineOutcome}
-use Rattle.reading.specs.Records.{Record, alone, withField, recordNamed, recordOf, formed}
-use Rattle.reading.proofs.Truths.{never, or-left, or-right}
+use Rattle.listings.specs.Records.{Record, alone, withField, recordNamed, recordOf, formed}
+use Rattle.text.proofs.Truths.{never, or-left, or-right}
 
 -- neither a tab nor a byte 10
 abbrev pub stops : ℕ → Bool
@@ -144,9 +144,6 @@ field-taken (x ∷ xs) = go (stops x) refl (field-taken xs)
     go false e h = rw e (one-more e h)
 
 module _ (s : Text) (at p : ℕ) (q : p ≡ at + toFieldEnd (drop at s)) where
-  pub field-from : at ≤ p
-  field-from = omega arith
-
   pub field-cut : Field (part at p s)
   field-cut = rw (q, add-sub-cancel-left) (field-taken (drop at s))
 

@@ -10,22 +10,23 @@ use lib.ListN.{length, set, getD, length-set, length-take, length-drop}
 use lib.Dec.{leb}
 use lib.Bits.{bitOr}
 use borrow.Author.Tests.{leb-true, lt-ltb, le-ltb, le-leb, lt-leb, not-true, not-false}
-use Rattle.reading.specs.Texts.{Text, bytes, same, all, part}
-use Rattle.reading.specs.Bytes.{isText, isToken, between}
-use Rattle.reading.specs.Records.{isStar, mayFollow}
-use Rattle.reading.specs.Names.{madeOf, isName, isRoleName, isMethodName, isPattern, isConstraintKind}
+use Rattle.text.specs.Texts.{Text, bytes, same, all, part, indexOf}
+use Rattle.text.specs.Bytes.{isText, isToken, between}
+use Rattle.listings.specs.Records.{isStar, mayFollow}
+use Rattle.listings.specs.Names.{madeOf, isName, isRoleName, isMethodName, isPattern, isConstraintKind}
 use Rattle.reading.specs.Sets.{withMember, withoutMember, lowest}
-use Rattle.reading.specs.Tables.{Tables, packed, Fits, Field, StepOutcome, Steps, steppedBy, next, tablesAt, region, textsAt, indexOf, isFirstMethod, checkRole, checkConstraint, checkAllow, checkCollection, checkPattern, checkMethod, addRole, addConstraint, addAllow, addCollection, addPattern, addMethod, addOmit, fieldCheck, fieldAdd, checkRecord, stepFrom, recordWith}
+use Rattle.listings.specs.Heads.{isFirstMethod}
+use Rattle.reading.specs.Tables.{Tables, packed, Fits, Field, StepOutcome, Steps, steppedBy, next, tablesAt, region, textsAt, checkRole, checkConstraint, checkAllow, checkCollection, checkPattern, checkMethod, addRole, addConstraint, addAllow, addCollection, addPattern, addMethod, addOmit, fieldCheck, fieldAdd, checkRecord, stepFrom, recordWith}
 use Rattle.reading.specs.Tallies.{tallyAt, tallyRole, tallyConstraint, tallyAllowed, tallyCollection, tallyPattern, tallyLine, tallyMethod}
-use Rattle.reading.specs.declared.answers.Fault.{Fault}
-use Rattle.reading.specs.declared.answers.Fault.the-variants.{WrongPlace, BadName, BadPattern, RoleTwice, PastMost}
-use Rattle.reading.specs.declared.records.Kind.{Kind}
-use Rattle.reading.specs.declared.records.Kind.the-variants.{Role, Constraint, Allow, Collection, Pattern, Method, Omit, End}
-use Rattle.reading.specs.declared.records.Place.the-variants.{AfterOpen, AfterAuth, AfterAllow, AfterMethod, AfterOmit, AfterEnd}
+use Rattle.listings.specs.declared.answers.Fault.{Fault}
+use Rattle.listings.specs.declared.answers.Fault.the-variants.{WrongPlace, BadName, BadPattern, RoleTwice, PastMost}
+use Rattle.listings.specs.declared.records.Kind.{Kind}
+use Rattle.listings.specs.declared.records.Kind.the-variants.{Role, Constraint, Allow, Collection, Pattern, Method, Omit, End}
+use Rattle.listings.specs.declared.records.Place.the-variants.{AfterOpen, AfterAuth, AfterAllow, AfterMethod, AfterOmit, AfterEnd}
 use Rattle.reading.specs.declared.tables.Tally.{Tally}
 use Rattle.reading.specs.declared.steps.Stepped.{Stepped}
 use Rattle.reading.specs.declared.steps.Stepped.the-variants.{Next, Wrong}
-use Rattle.reading.proofs.Truths.{and-left, and-right}
+use Rattle.text.proofs.Truths.{and-left, and-right}
 use Rattle.reading.proofs.Growth as G
 
 -- ---- names and patterns are short enough to be named by a number
@@ -69,13 +70,15 @@ module _ (check : Tables → Text → Option Fault) (add : Tables → Text → T
 -- ---- the records
 module _ (s : Text) (t : Tally) (w : List ℕ) (a e : ℕ) (d : Field s t w a e) where
   -- `collection`
-  pub collection-past : (left : List ℕ) → 128 ≤ t .collections → Steps checkCollection addCollection s t w a e (Wrong PastMost) left
-  collection-past left h =
+  pub collection-past : (left : List ℕ) (most : ℕ) → most ≡ 128 → most ≤ t .collections → Steps checkCollection addCollection s t w a e (Wrong PastMost) left
+  collection-past left most m g =
+      let h : 128 ≤ t .collections = omega (arith, m) in
       refused checkCollection addCollection s t w a e left PastMost (rw (G.count-covers s t w (d .fits), le-leb _ _ h))
 
-  pub collection-next : (r : Tally) → r ≡ tallyCollection t → t .collections < 128
+  pub collection-next : (r : Tally) (most : ℕ) → most ≡ 128 → r ≡ tallyCollection t → t .collections < most
       → Steps checkCollection addCollection s t w a e (Next r) (set w (449 + t .collections) 4294967295)
-  collection-next r q h =
+  collection-next r most m q g =
+      let h : t .collections < 128 = omega (arith, m) in
       taken checkCollection addCollection s t w a e _ r (tallyCollection t) (rw (G.count-covers s t w (d .fits), lt-leb _ _ h)) q
       (G.collection-grown s t w (d .fits) (part a e s) h)
       (kept w (simp length-set) (omega arith))
@@ -85,25 +88,30 @@ module _ (s : Text) (t : Tally) (w : List ℕ) (a e : ℕ) (d : Field s t w a e)
     pub constraint-bad : (left : List ℕ) → not b ≡ true → Steps checkConstraint addConstraint s t w a e (Wrong BadName) left
     constraint-bad left y = refused checkConstraint addConstraint s t w a e left BadName (rw (← good, y))
 
-    pub constraint-past : (left : List ℕ) → not b ≡ false → 64 ≤ t .constraints → Steps checkConstraint addConstraint s t w a e (Wrong PastMost) left
-    constraint-past left y h =
+    pub constraint-past : (left : List ℕ) (most : ℕ) → most ≡ 64 → not b ≡ false → most ≤ t .constraints
+        → Steps checkConstraint addConstraint s t w a e (Wrong PastMost) left
+    constraint-past left most m y g =
+        let h : 64 ≤ t .constraints = omega (arith, m) in
         refused checkConstraint addConstraint s t w a e left PastMost (rw (← good, y, G.count-marks s t w (d .fits), le-leb _ _ h))
 
-    module _ (y : not b ≡ false) (h : t .constraints < 64) (o : Bool) (is : o ≡ same (part a e s) (bytes "open")) where
+    module _ (most : ℕ) (m : most ≡ 64) (y : not b ≡ false) (g : t .constraints < most) (o : Bool) (is : o ≡ same (part a e s) (bytes "open")) where
+      few-constraints : t .constraints < 64
+      few-constraints = omega (arith, m)
+
       constraint-room : none ≡ checkConstraint (tablesAt s t w) (part a e s)
-      constraint-room = rw (← good, y, G.count-marks s t w (d .fits), lt-leb _ _ h)
+      constraint-room = rw (← good, y, G.count-marks s t w (d .fits), lt-leb _ _ few-constraints)
 
       pub constraint-open : (r : Tally) (left : List ℕ) → left ≡ set (set w (581 + t .constraints) 0) (651 + t .constraints) 0
           → r ≡ tallyConstraint t AfterOpen → o ≡ true → Steps checkConstraint addConstraint s t w a e (Next r) left
       constraint-open r left l q k =
           rw l (taken checkConstraint addConstraint s t w a e _ r (tallyConstraint t AfterOpen) constraint-room q
-          (G.open-grown s t w (d .fits) (part a e s) (sym is ∙ k) h) (kept w (simp length-set) (omega arith)))
+          (G.open-grown s t w (d .fits) (part a e s) (sym is ∙ k) few-constraints) (kept w (simp length-set) (omega arith)))
 
       pub constraint-auth : (r : Tally) (left : List ℕ) → left ≡ set (set w (581 + t .constraints) 0) (651 + t .constraints) 1
           → r ≡ tallyConstraint t AfterAuth → o ≡ false → Steps checkConstraint addConstraint s t w a e (Next r) left
       constraint-auth r left l q k =
           rw l (taken checkConstraint addConstraint s t w a e _ r (tallyConstraint t AfterAuth) constraint-room q
-          (G.auth-grown s t w (d .fits) (part a e s) (sym is ∙ k) h) (kept w (simp length-set) (omega arith)))
+          (G.auth-grown s t w (d .fits) (part a e s) (sym is ∙ k) few-constraints) (kept w (simp length-set) (omega arith)))
 
   -- `role⇥NAME`
   module _ (b : Bool) (good : b ≡ isRoleName (part a e s)) where
@@ -116,15 +124,17 @@ module _ (s : Text) (t : Tally) (w : List ℕ) (a e : ℕ) (d : Field s t w a e)
       role-twice left h =
           refused checkRole addRole s t w a e left RoleTwice (rw (← good, y, G.count-roles s t w (d .fits), ← q, lt-ltb _ _ h))
 
-      pub role-past : (left : List ℕ) → t .roles ≤ i → 32 ≤ t .roles → Steps checkRole addRole s t w a e (Wrong PastMost) left
+      pub role-past : (left : List ℕ) (most : ℕ) → most ≡ 32 → t .roles ≤ i → most ≤ t .roles → Steps checkRole addRole s t w a e (Wrong PastMost) left
       unfolding tablesAt
-      role-past left k h =
+      role-past left most x k g =
+          let h : 32 ≤ t .roles = omega (arith, x) in
           refused checkRole addRole s t w a e left PastMost (rw (← good, y, G.count-roles s t w (d .fits), ← q, le-ltb _ _ k, le-leb _ _ h))
 
-      pub role-next : (r : Tally) (left : List ℕ) → left ≡ set w (0 + t .roles) (packed s a e) → r ≡ tallyRole t
-          → t .roles ≤ i → t .roles < 32 → Steps checkRole addRole s t w a e (Next r) left
+      pub role-next : (r : Tally) (left : List ℕ) (most : ℕ) → most ≡ 32 → left ≡ set w (0 + t .roles) (packed s a e) → r ≡ tallyRole t
+          → t .roles ≤ i → t .roles < most → Steps checkRole addRole s t w a e (Next r) left
       unfolding tablesAt
-      role-next r left l m k h =
+      role-next r left most x l m k g =
+          let h : t .roles < 32 = omega (arith, x) in
           rw l (taken checkRole addRole s t w a e _ r (tallyRole t)
           (rw (← good, y, G.count-roles s t w (d .fits), ← q, le-ltb _ _ k, lt-leb _ _ h)) m
           (G.role-grown s t w (d .fits) a e (d .from) (d .to) (role-name-short s a e (d .to) b good y) h)
@@ -153,17 +163,19 @@ module _ (s : Text) (t : Tally) (w : List ℕ) (a e : ℕ) (d : Field s t w a e)
             (rw (← good, y, ← is, n, G.count-roles s t w (d .fits), ← q, lt-ltb _ _ h)) m
             (G.known-role-grown s t w (d .fits) (part a e s) (sym is ∙ n) i q h) (kept w (simp length-set) (omega arith)))
 
-        pub allow-past : (left : List ℕ) → t .roles ≤ i → 32 ≤ t .roles → Steps checkAllow addAllow s t w a e (Wrong PastMost) left
+        pub allow-past : (left : List ℕ) (most : ℕ) → most ≡ 32 → t .roles ≤ i → most ≤ t .roles → Steps checkAllow addAllow s t w a e (Wrong PastMost) left
         unfolding tablesAt
-        allow-past left k h =
+        allow-past left most x k g =
+            let h : 32 ≤ t .roles = omega (arith, x) in
             refused checkAllow addAllow s t w a e left PastMost
             (rw (← good, y, ← is, n, G.count-roles s t w (d .fits), ← q, le-ltb _ _ k, le-leb _ _ h))
 
-        pub allow-new : (r : Tally) (v left : List ℕ) → v ≡ set w (0 + t .roles) (packed s a e)
+        pub allow-new : (r : Tally) (v left : List ℕ) (most : ℕ) → most ≡ 32 → v ≡ set w (0 + t .roles) (packed s a e)
             → left ≡ set (set v (580 + t .constraints) (bitOr (getD v (580 + t .constraints) 0) (withMember 0 (t .roles)))) (650 + t .constraints) 2
-            → r ≡ tallyAllowed t → t .roles ≤ i → t .roles < 32 → Steps checkAllow addAllow s t w a e (Next r) left
+            → r ≡ tallyAllowed t → t .roles ≤ i → t .roles < most → Steps checkAllow addAllow s t w a e (Next r) left
         unfolding tablesAt
-        allow-new r v left z l m k h =
+        allow-new r v left most x z l m k g =
+            let h : t .roles < 32 = omega (arith, x) in
             rw l (taken checkAllow addAllow s t w a e _ r (tallyAllowed t)
             (rw (← good, y, ← is, n, G.count-roles s t w (d .fits), ← q, le-ltb _ _ k, lt-leb _ _ h)) m
             (G.new-role-grown s t w (d .fits) a e (d .from) (d .to) (name-short s a e (d .to) b good y) i (sym is ∙ n) q k h v z)
@@ -174,13 +186,16 @@ module _ (s : Text) (t : Tally) (w : List ℕ) (a e : ℕ) (d : Field s t w a e)
     pub pattern-bad : (left : List ℕ) → not b ≡ true → Steps checkPattern addPattern s t w a e (Wrong BadPattern) left
     pattern-bad left y = refused checkPattern addPattern s t w a e left BadPattern (rw (← good, y))
 
-    pub pattern-past : (left : List ℕ) → not b ≡ false → 128 ≤ t .patterns → Steps checkPattern addPattern s t w a e (Wrong PastMost) left
-    pattern-past left y h = refused checkPattern addPattern s t w a e left PastMost (rw (← good, y, G.count-patterns s t w (d .fits), le-leb _ _ h))
+    pub pattern-past : (left : List ℕ) (most : ℕ) → most ≡ 128 → not b ≡ false → most ≤ t .patterns → Steps checkPattern addPattern s t w a e (Wrong PastMost) left
+    pattern-past left most x y g =
+        let h : 128 ≤ t .patterns = omega (arith, x) in
+        refused checkPattern addPattern s t w a e left PastMost (rw (← good, y, G.count-patterns s t w (d .fits), le-leb _ _ h))
 
-    pub pattern-next : (r : Tally) (left : List ℕ)
+    pub pattern-next : (r : Tally) (left : List ℕ) (most : ℕ) → most ≡ 128
         → left ≡ set (set (set w (64 + t .patterns) (packed s a e)) (192 + t .patterns) (t .collections)) (320 + t .patterns) (t .constraints)
-        → r ≡ tallyPattern t → not b ≡ false → t .patterns < 128 → Steps checkPattern addPattern s t w a e (Next r) left
-    pattern-next r left l m y h =
+        → r ≡ tallyPattern t → not b ≡ false → t .patterns < most → Steps checkPattern addPattern s t w a e (Next r) left
+    pattern-next r left most x l m y g =
+        let h : t .patterns < 128 = omega (arith, x) in
         rw l (taken checkPattern addPattern s t w a e _ r (tallyPattern t) (rw (← good, y, G.count-patterns s t w (d .fits), lt-leb _ _ h)) m
         (G.pattern-grown s t w (d .fits) a e (d .from) (d .to) (pattern-short s a e (d .to) b good y) h)
         (kept w (simp length-set) (omega arith)))
@@ -190,55 +205,64 @@ module _ (s : Text) (t : Tally) (w : List ℕ) (a e : ℕ) (d : Field s t w a e)
     pub line-bad : (add : Tables → Text → Tables) (left : List ℕ) → not b ≡ true → Steps checkMethod add s t w a e (Wrong BadName) left
     line-bad add left y = refused checkMethod add s t w a e left BadName (rw (← good, y))
 
-    pub lines-past : (add : Tables → Text → Tables) (left : List ℕ) → not b ≡ false → 512 ≤ t .lines → Steps checkMethod add s t w a e (Wrong PastMost) left
+    pub lines-past : (add : Tables → Text → Tables) (left : List ℕ) (most : ℕ) → most ≡ 512 → not b ≡ false → most ≤ t .lines
+        → Steps checkMethod add s t w a e (Wrong PastMost) left
     unfolding tablesAt
-    lines-past add left y h = refused checkMethod add s t w a e left PastMost (rw (← good, y, le-leb _ _ h))
+    lines-past add left most x y g =
+        let h : 512 ≤ t .lines = omega (arith, x) in
+        refused checkMethod add s t w a e left PastMost (rw (← good, y, le-leb _ _ h))
 
-    module _ (y : not b ≡ false) (g : t .lines < 512) (i : ℕ) (q : i ≡ indexOf (part a e s) (textsAt s (region w 32 (t .methods)))) where
-      pub methods-past : (add : Tables → Text → Tables) (left : List ℕ) → t .methods ≤ i → 31 ≤ t .methods
+    module _ (y : not b ≡ false) (most : ℕ) (x : most ≡ 512) (few : t .lines < most) (i : ℕ) (q : i ≡ indexOf (part a e s) (textsAt s (region w 32 (t .methods)))) where
+      few-lines : t .lines < 512
+      few-lines = omega (arith, x)
+
+      pub methods-past : (add : Tables → Text → Tables) (left : List ℕ) (many : ℕ) → many ≡ 31 → t .methods ≤ i → many ≤ t .methods
           → Steps checkMethod add s t w a e (Wrong PastMost) left
       unfolding tablesAt
-      methods-past add left k h =
+      methods-past add left many x k f =
+          let h : 31 ≤ t .methods = omega (arith, x) in
           refused checkMethod add s t w a e left PastMost
-          (rw (← good, y, lt-leb _ _ g, G.count-methods s t w (d .fits), ← q, le-ltb _ _ k, le-leb _ _ h))
+          (rw (← good, y, lt-leb _ _ few-lines, G.count-methods s t w (d .fits), ← q, le-ltb _ _ k, le-leb _ _ h))
 
       known-room : i < t .methods → none ≡ checkMethod (tablesAt s t w) (part a e s)
       unfolding tablesAt
-      known-room h = rw (← good, y, lt-leb _ _ g, G.count-methods s t w (d .fits), ← q, lt-ltb _ _ h)
+      known-room h = rw (← good, y, lt-leb _ _ few-lines, G.count-methods s t w (d .fits), ← q, lt-ltb _ _ h)
 
       new-room : t .methods ≤ i → t .methods < 31 → none ≡ checkMethod (tablesAt s t w) (part a e s)
       unfolding tablesAt
-      new-room k h = rw (← good, y, lt-leb _ _ g, G.count-methods s t w (d .fits), ← q, le-ltb _ _ k, lt-leb _ _ h)
+      new-room k h = rw (← good, y, lt-leb _ _ few-lines, G.count-methods s t w (d .fits), ← q, le-ltb _ _ k, lt-leb _ _ h)
 
       module _ (r : Tally) (left : List ℕ) (fresh : Bool) (first : fresh ≡ isFirstMethod (t .place)) where
         pub method-known : left ≡ set w (448 + t .collections) (withMember (cond fresh 0 (getD w (448 + t .collections) 0)) i)
             → r ≡ tallyLine t AfterMethod → i < t .methods → Steps checkMethod addMethod s t w a e (Next r) left
         method-known l m h =
             rw l (taken checkMethod addMethod s t w a e _ r (tallyLine t AfterMethod) (known-room h) m
-            (G.known-method-grown s t w (d .fits) (part a e s) i q fresh first g h) (kept w (simp length-set) (omega arith)))
+            (G.known-method-grown s t w (d .fits) (part a e s) i q fresh first few-lines h) (kept w (simp length-set) (omega (arith, few-lines))))
 
-        pub method-new : (v : List ℕ) → v ≡ set w (32 + t .methods) (packed s a e)
+        pub method-new : (v : List ℕ) (many : ℕ) → many ≡ 31 → v ≡ set w (32 + t .methods) (packed s a e)
             → left ≡ set v (448 + t .collections) (withMember (cond fresh 0 (getD v (448 + t .collections) 0)) (t .methods))
-            → r ≡ tallyMethod t AfterMethod → t .methods ≤ i → t .methods < 31 → Steps checkMethod addMethod s t w a e (Next r) left
-        method-new v z l m k h =
+            → r ≡ tallyMethod t AfterMethod → t .methods ≤ i → t .methods < many → Steps checkMethod addMethod s t w a e (Next r) left
+        method-new v many x z l m k f =
+            let h : t .methods < 31 = omega (arith, x) in
             rw l (taken checkMethod addMethod s t w a e _ r (tallyMethod t AfterMethod) (new-room k h) m
-            (G.new-method-grown s t w (d .fits) a e (d .from) (d .to) (method-name-short s a e (d .to) b good y) i g q k h v z fresh first)
-            (kept w (rw z (simp length-set)) (omega arith)))
+            (G.new-method-grown s t w (d .fits) a e (d .from) (d .to) (method-name-short s a e (d .to) b good y) i few-lines q k h v z fresh first)
+            (kept w (rw z (simp length-set)) (omega (arith, few-lines))))
 
       module _ (r : Tally) (left : List ℕ) where
         pub omit-known : left ≡ set w (448 + t .collections) (withoutMember (getD w (448 + t .collections) 0) i)
             → r ≡ tallyLine t AfterOmit → i < t .methods → Steps checkMethod addOmit s t w a e (Next r) left
         omit-known l m h =
             rw l (taken checkMethod addOmit s t w a e _ r (tallyLine t AfterOmit) (known-room h) m
-            (G.known-omit-grown s t w (d .fits) (part a e s) i q g h) (kept w (simp length-set) (omega arith)))
+            (G.known-omit-grown s t w (d .fits) (part a e s) i q few-lines h) (kept w (simp length-set) (omega (arith, few-lines))))
 
-        pub omit-new : (v : List ℕ) → v ≡ set w (32 + t .methods) (packed s a e)
+        pub omit-new : (v : List ℕ) (many : ℕ) → many ≡ 31 → v ≡ set w (32 + t .methods) (packed s a e)
             → left ≡ set v (448 + t .collections) (withoutMember (getD v (448 + t .collections) 0) (t .methods))
-            → r ≡ tallyMethod t AfterOmit → t .methods ≤ i → t .methods < 31 → Steps checkMethod addOmit s t w a e (Next r) left
-        omit-new v z l m k h =
+            → r ≡ tallyMethod t AfterOmit → t .methods ≤ i → t .methods < many → Steps checkMethod addOmit s t w a e (Next r) left
+        omit-new v many x z l m k f =
+            let h : t .methods < 31 = omega (arith, x) in
             rw l (taken checkMethod addOmit s t w a e _ r (tallyMethod t AfterOmit) (new-room k h) m
-            (G.new-omit-grown s t w (d .fits) a e (d .from) (d .to) (method-name-short s a e (d .to) b good y) i g q k h v z)
-            (kept w (rw z (simp length-set)) (omega arith)))
+            (G.new-omit-grown s t w (d .fits) a e (d .from) (d .to) (method-name-short s a e (d .to) b good y) i few-lines q k h v z)
+            (kept w (rw z (simp length-set)) (omega (arith, few-lines))))
 
 -- ---- by the kind of record
 module _ (s : Text) (t : Tally) (w : List ℕ) (a e : ℕ) (k : Kind) (r : Stepped) (left : List ℕ) where

@@ -5,17 +5,17 @@ use mathlib.Core.List.{List, [], _∷_, _++_, append-assoc}
 use mathlib.Core.Option.{Option, none, some}
 use Prim.Native.Nat.{ℕ, suc}
 use native.Mathlib.Omega.{arith}
-use Rattle.reading.specs.Texts.{run}
-use Rattle.reading.specs.Lines.{Line}
-use Rattle.reading.specs.Records.{Record, formed, isKind}
-use Rattle.reading.specs.Refusals.{refusal, firstBroken, afterEnd, readFrom}
-use Rattle.reading.specs.Listings.{recordsIn}
+use Rattle.text.specs.Texts.{run}
+use Rattle.text.specs.Lines.{Line}
+use Rattle.listings.specs.Records.{Record, formed, isKind}
+use Rattle.listings.specs.Refusals.{refusal, firstBroken, afterEnd, readFrom}
+use Rattle.listings.specs.Listings.{recordsIn}
 use Rattle.reading.specs.Tables.{Tables, startTables, tablesWith, tablesOf, checkRecord, stepFrom, Filling, filled, unfilled, closing, fillFrom, answerOf}
-use Rattle.reading.specs.declared.records.Kind.the-variants.{End}
-use Rattle.reading.specs.declared.answers.Fault.{Fault}
-use Rattle.reading.specs.declared.answers.Fault.the-variants.{BadForm, NoEnd}
+use Rattle.listings.specs.declared.records.Kind.the-variants.{End}
+use Rattle.listings.specs.declared.answers.Fault.{Fault}
+use Rattle.listings.specs.declared.answers.Fault.the-variants.{BadForm, NoEnd}
 use Rattle.reading.proofs.Countings.{tables-snoc}
-use Rattle.reading.proofs.Sound.{Sound, sound-none, sound-more, passes}
+use Rattle.listings.proofs.Sound.{Sound, sound-none, sound-more, passes}
 use Rattle.reading.proofs.Keeping.{check-first, kept}
 
 -- ---- one line

@@ -6,15 +6,17 @@ use Prim.Native.Nat.{ℕ, _+_, _-_, _*_, _^_, _≤_, _<_}
 use native.Mathlib.Omega.{arith}
 use lib.ListN.{length, set, getD, length-set}
 use lib.Bits.{bitOr, or-zero-l}
-use Rattle.reading.specs.Texts.{Text, bytes, same, onLast, part}
-use Rattle.reading.specs.Tables.{Tables, Fits, packed, tablesAt, region, textsAt, indexOf, indexed, isFirstMethod, addAllowTo, addMethodTo, addRole, addConstraint, addAllow, addCollection, addPattern, addMethod, addOmit}
-use Rattle.reading.specs.Records.{isStar}
+use Rattle.text.specs.Texts.{Text, bytes, same, onLast, part, indexOf}
+use Rattle.listings.specs.Heads.{isFirstMethod}
+use Rattle.reading.specs.Tables.{Tables, Fits, packed, tablesAt, region, textsAt, indexed, addAllowTo, addMethodTo, addRole, addConstraint, addAllow, addCollection, addPattern, addMethod, addOmit}
+use Rattle.listings.specs.Records.{isStar}
 use Rattle.reading.specs.Sets.{withMember, withoutMember, lowest}
-use Rattle.reading.specs.declared.records.Place.{Place}
-use Rattle.reading.specs.declared.records.Place.the-variants.{AfterOpen, AfterAuth, AfterAllow, AfterMethod, AfterOmit}
+use Rattle.listings.specs.declared.records.Place.{Place}
+use Rattle.listings.specs.declared.records.Place.the-variants.{AfterOpen, AfterAuth, AfterAllow, AfterMethod, AfterOmit}
 use Rattle.reading.specs.Tallies.{tallyAt, tallyRole, tallyConstraint, tallyAllowed, tallyCollection, tallyPattern, tallyLine, tallyMethod}
 use Rattle.reading.specs.declared.tables.Tally.{Tally}
-use Rattle.reading.proofs.Regions.{text-part, texts-append, texts-length, region-length, region-apart, region-append, region-last, on-last-same, index-bound, indexed-known, indexed-new}
+use Rattle.reading.proofs.Regions.{text-part, texts-append, texts-length, region-length, region-apart, region-append, region-last, on-last-same, indexed-known, indexed-new}
+use Rattle.text.proofs.Indices.{index-bound}
 
 -- ---- tables with one list changed
 abbrev withRoles : Tables → List Text → Tables

@@ -6,10 +6,11 @@ use native.Mathlib.Omega.{arith}
 use lib.ListN.{length, getD, List·getD-map}
 use lib.Dec.{T, leb, leb→le}
 use borrow.Author.Tests.{ne-eqb}
-use Rattle.reading.specs.Texts.{Text}
-use Rattle.reading.specs.Listings.{listingOf, recordsOf}
-use Rattle.reading.specs.Views.{patternsOf, coverAt, accessAt}
-use Rattle.reading.specs.Tables.{Holds, indexOf, region, textAt, stamped, textsAt, tablesAt}
+use Rattle.text.specs.Texts.{Text, indexOf}
+use Rattle.listings.specs.Listings.{listingOf, recordsOf, patternsOf}
+use Rattle.reading.specs.Views.{coverAt, accessAt}
+use Rattle.reading.specs.Tables.{region, textAt, stamped, textsAt, tablesAt}
+use Rattle.reading.specs.Holds.{Holds}
 use Rattle.reading.specs.declared.tables.Tally.{Tally}
 use Rattle.reading.specs.declared.held.Access.the-variants.{Open, Closed, ByRole}
 use Rattle.reading.proofs.Regions.{region-length, region-at, texts-length}

@@ -8,19 +8,20 @@ use native.Mathlib.Omega.{arith}
 use lib.ListN.{length}
 use lib.Dec.{ltb, leb, leb·suc-suc}
 use borrow.Author.Tests.{le-ltb}
-use Rattle.reading.specs.Texts.{Text, bytes, same, member, known, run, distinct}
-use Rattle.reading.specs.Records.{Record, placeOf, placeAfter, mayFollow, isAmong, isKind, isStar, fieldsWhere, namesRole, namesMethod, declaredIn, rolesIn, methodsIn}
-use Rattle.reading.specs.Names.{nameFits, patternFits, isRoleName}
-use Rattle.reading.specs.Limits.{mostConstraints, mostCollections, mostPatterns, mostMethodLines, mostRoles, mostMethods, count, tooMany}
-use Rattle.reading.specs.Refusals.{declaresAgain, firstBroken}
-use Rattle.reading.specs.Tables.{Tables, indexOf, indexed, fieldAdd, tablesWith, tablesOf, fieldCheck, checkRecord, recordWith}
-use Rattle.reading.specs.declared.records.Kind.{Kind}
-use Rattle.reading.specs.declared.records.Kind.the-variants.{Role, Constraint, Allow, Collection, Pattern, Method, Omit, End}
-use Rattle.reading.specs.declared.records.Place.the-variants.{AfterOpen, AfterAuth}
-use Rattle.reading.specs.declared.answers.Fault.the-variants.{WrongPlace, PastMost}
-use Rattle.reading.proofs.Truths.{never}
-use Rattle.reading.proofs.Countings.{length-on-last, length-snoc, index-member, indexed-known, place-snoc, count-snoc, declared-snoc, roles-snoc, methods-snoc, tables-snoc}
-use Rattle.reading.proofs.Sound.{Passes, Sound, sound-none, sound-more, faultBy, first-broken, Within, Few, few}
+use Rattle.text.specs.Texts.{Text, bytes, same, member, known, run, distinct, indexOf}
+use Rattle.listings.specs.Records.{Record, placeOf, placeAfter, mayFollow, isAmong, isKind, isStar, fieldsWhere, namesRole, namesMethod, declaredIn, rolesIn, methodsIn}
+use Rattle.listings.specs.Names.{nameFits, patternFits, isRoleName}
+use Rattle.listings.specs.Limits.{mostConstraints, mostCollections, mostPatterns, mostMethodLines, mostRoles, mostMethods, count, tooMany}
+use Rattle.listings.specs.Refusals.{declaresAgain, firstBroken}
+use Rattle.reading.specs.Tables.{Tables, indexed, fieldAdd, tablesWith, tablesOf, fieldCheck, checkRecord, recordWith}
+use Rattle.listings.specs.declared.records.Kind.{Kind}
+use Rattle.listings.specs.declared.records.Kind.the-variants.{Role, Constraint, Allow, Collection, Pattern, Method, Omit, End}
+use Rattle.listings.specs.declared.records.Place.the-variants.{AfterOpen, AfterAuth}
+use Rattle.listings.specs.declared.answers.Fault.the-variants.{WrongPlace, PastMost}
+use Rattle.text.proofs.Truths.{never}
+use Rattle.text.proofs.Indices.{length-snoc, index-member}
+use Rattle.reading.proofs.Countings.{length-on-last, indexed-known, place-snoc, count-snoc, declared-snoc, roles-snoc, methods-snoc, tables-snoc}
+use Rattle.listings.proofs.Sound.{Passes, Sound, sound-none, sound-more, faultBy, first-broken, Within, Few, few}
 
 -- what tables keep of records
 pub record Kept (rs : List Record) (T : Tables) : Type 0 where

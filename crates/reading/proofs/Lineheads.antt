@@ -10,21 +10,22 @@ use lib.ListN.{length, take, drop, getD, length-drop, length-append}
 use lib.Seq.{getD-drop, drop-cons, append-snoc, take-append-seam, getD-append-seam}
 use lib.Dec.{eqb}
 use borrow.Author.Tests.{ne-eqb, eq-eqb, eqb-true, eqb-false, not-true}
-use Rattle.reading.specs.Texts.{Text, bytes, tab, newline, part, same, all, startsWith}
-use Rattle.reading.specs.Lines.{linesOf, toFieldEnd}
-use Rattle.reading.specs.Records.{alone, withField, recordNamed}
-use Rattle.reading.specs.Tables.{Tables, bad, lineWith, lineFrom, LineOutcome, headed, unheaded, headOfPart, headOf}
-use Rattle.reading.specs.declared.records.Kind.{Kind}
-use Rattle.reading.specs.declared.records.Kind.the-variants.{Role, Constraint, Allow, Collection, Pattern, Method, Omit, End}
-use Rattle.reading.specs.declared.records.Named.{Named}
-use Rattle.reading.specs.declared.records.Named.the-variants.{Known, Unknown}
-use Rattle.reading.specs.declared.records.Headed.{Headed}
+use Rattle.text.specs.Texts.{Text, bytes, tab, newline, part, same, all, startsWith}
+use Rattle.text.specs.Lines.{linesOf, toFieldEnd}
+use Rattle.listings.specs.Records.{alone, withField, recordNamed}
+use Rattle.listings.specs.Heads.{headed, unheaded, headOfPart, headOf}
+use Rattle.reading.specs.Tables.{Tables, bad, lineWith, lineFrom, LineOutcome}
+use Rattle.listings.specs.declared.records.Kind.{Kind}
+use Rattle.listings.specs.declared.records.Kind.the-variants.{Role, Constraint, Allow, Collection, Pattern, Method, Omit, End}
+use Rattle.listings.specs.declared.records.Named.{Named}
+use Rattle.listings.specs.declared.records.Named.the-variants.{Known, Unknown}
+use Rattle.listings.specs.declared.records.Headed.{Headed}
 use Rattle.reading.specs.declared.reader.Cursor.{Cursor}
 use Rattle.reading.specs.declared.reader.Lined.{Lined}
 use Rattle.reading.specs.declared.reader.Lined.the-variants.{Bad}
-use Rattle.reading.specs.declared.answers.Fault.the-variants.{BadForm}
-use Rattle.reading.proofs.Truths.{never, and-left, and-right}
-use Rattle.reading.proofs.Spans.{from-on}
+use Rattle.listings.specs.declared.answers.Fault.the-variants.{BadForm}
+use Rattle.text.proofs.Truths.{never, and-left, and-right}
+use Rattle.text.proofs.Spans.{from-on}
 use Rattle.reading.proofs.Walks.{line-bad, line-by}
 use Rattle.reading.proofs.Cuts.{stops, Field, none-left, one-more, field-cut, field-newline, field-tabbed, part-none, line-unended, line-alone, line-unended-second, line-two, line-third}
 
@@ -228,10 +229,6 @@ module _ (s : Text) (c : Cursor) (T : Tables) (d : Headed) (e : ℕ) (w : List �
     (q : d ≡ headOf (part (c .at) (length s) s)) (h : c .at < length s) (k : e ≡ c .at + d .size + toFieldEnd (drop (c .at + d .size) s)) where
   begins : Begun s (c .at) (c .at + d .size) (d .named)
   begins = rw (q, from-on (c .at) s) (begun s (c .at) h)
-
-  -- the field's end lies behind the line's begin
-  pub head-from : c .at ≤ e
-  head-from = omega arith
 
   pub head-unended : length s ≤ e → LineOutcome s c (lineFrom T (linesOf (drop (c .at) s))) (Bad BadForm) w
   head-unended g = line-bad s c _ BadForm w (begins .unended T e k g)

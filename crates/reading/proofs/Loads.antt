@@ -9,22 +9,23 @@ use native.Mathlib.Decide.{decLe}
 use lib.ListN.{length, drop}
 use lib.Dec.{ltb}
 use borrow.Author.Tests.{lt-ltb, le-ltb, not-true, not-false}
-use Rattle.reading.specs.Texts.{Text, bytes, same, startsWith}
-use Rattle.reading.specs.Lines.{Line, linesOf}
-use Rattle.reading.specs.Refusals.{Reading, accepted, refusal, readFrom, readLines, readingOf}
-use Rattle.reading.specs.Listings.{recordsIn, recordsOf}
-use Rattle.reading.specs.Tables.{Filling, filled, unfilled, Tables, Fits, fillFrom, startTables, answerOf, tablesAt, tablesOf, fillShown, FillFits, FillOutcome, Holds, readingShown, LoadHolds, LoadOutcome}
-use Rattle.reading.specs.declared.answers.Fault.{Fault}
-use Rattle.reading.specs.declared.answers.Fault.the-variants.{LongListing, BadFirstLine}
+use Rattle.text.specs.Texts.{Text, bytes, same, startsWith}
+use Rattle.text.specs.Lines.{Line, linesOf}
+use Rattle.listings.specs.Refusals.{Reading, accepted, refusal, readFrom, readLines, readingOf}
+use Rattle.listings.specs.Listings.{recordsIn, recordsOf}
+use Rattle.reading.specs.Tables.{Filling, filled, unfilled, Tables, Fits, fillFrom, startTables, answerOf, tablesAt, tablesOf, fillShown, FillFits, FillOutcome}
+use Rattle.reading.specs.Holds.{Holds, readingShown, LoadHolds, LoadOutcome}
+use Rattle.listings.specs.declared.answers.Fault.{Fault}
+use Rattle.listings.specs.declared.answers.Fault.the-variants.{LongListing, BadFirstLine}
 use Rattle.reading.specs.declared.tables.Tally.{Tally}
 use Rattle.reading.specs.declared.reader.Loaded.{Loaded}
 use Rattle.reading.specs.declared.reader.Loaded.the-variants.{Whole, Not}
-use Rattle.reading.specs.Refusals.{numberOf}
+use Rattle.listings.specs.Refusals.{numberOf}
 use Rattle.reading.specs.Outcomes.{reportOf, zeroed, workAfter, readReport, ReadOutcome}
-use Rattle.reading.specs.declared.answers.Report.{Report}
-use Rattle.reading.proofs.Headers.{header, header-missing, header-there, header-length}
+use Rattle.listings.specs.declared.answers.Report.{Report}
+use Rattle.listings.proofs.Headers.{header, header-missing, header-there, header-length}
 use Rattle.reading.proofs.Filling.{fill-reads, fill-tables, fill-sound}
-use Rattle.reading.proofs.Sound.{Sound}
+use Rattle.listings.proofs.Sound.{Sound}
 
 -- ---- a text that is short enough is read by its lines
 short : (s : Text) → length s ≤ 24576 → readingOf s ≡ readLines (linesOf s)
@@ -41,22 +42,29 @@ unfolding recordsOf
 records-behind s e = ap (λ (ls : List Line). recordsIn (drop 1 ls)) (header-there s e)
 
 -- ---- the ways out of `load`
-pub load-long : (s : Text) (w : List ℕ) → 24576 < length s → LoadOutcome s (Not LongListing 0) w
+pub load-long : (s : Text) (w : List ℕ) (most : ℕ) → most ≡ 24576 → most < length s → LoadOutcome s (Not LongListing 0) w
 unfolding readingOf
-load-long s w h = record { answer = sym (rw (lt-ltb _ _ h)); holds = tt }
+load-long s w most m g =
+    let h : 24576 < length s = omega (arith, m) in
+    record { answer = sym (rw (lt-ltb _ _ h)); holds = tt }
 
-pub load-headless : (s : Text) (w : List ℕ) (r : Bool) → length s ≤ 24576 → r ≡ startsWith header s → not r ≡ true → LoadOutcome s (Not BadFirstLine 1) w
-load-headless s w r h e n =
+pub load-headless : (s : Text) (w : List ℕ) (r : Bool) (most : ℕ) → most ≡ 24576 → length s ≤ most → r ≡ startsWith header s → not r ≡ true
+    → LoadOutcome s (Not BadFirstLine 1) w
+load-headless s w r most m g e n =
+    let h : length s ≤ 24576 = omega (arith, m) in
     let f : startsWith header s ≡ false = sym e ∙ not-true r n in
     record { answer = sym (short s h ∙ header-missing s f); holds = tt }
 
 pub load-length : (s : Text) (r : Bool) → r ≡ startsWith header s → not r ≡ false → 14 ≤ length s
 load-length s r e n = header-length s (sym e ∙ not-false r n)
 
-pub load-filled : (s : Text) (w : List ℕ) (r : Bool) (out : Loaded) → length s ≤ 24576 → r ≡ startsWith header s → not r ≡ false
+pub load-filled : (s : Text) (w : List ℕ) (r : Bool) (out : Loaded) (most : ℕ) → most ≡ 24576 → length s ≤ most → r ≡ startsWith header s → not r ≡ false
     → FillOutcome s (fillFrom startTables 2 (linesOf (drop 14 s))) out w → LoadOutcome s out w
-load-filled s w r out h e n o = go out (o .answer) (o .fits)
+load-filled s w r out most m g e n o = go out (o .answer) (o .fits)
   where
+    h : length s ≤ 24576
+    h = omega (arith, m)
+
     begins : startsWith header s ≡ true
     begins = sym e ∙ not-false r n
 
@@ -94,7 +102,7 @@ accepted-sound s a = by-size (decLe (length s) 24576)
     by-size (yes h) = by-header (startsWith header s) refl h
     by-size (no h) =
         let l : 24576 < length s = omega arith in
-        absurd (refused LongListing 0 (load-long s [] l .answer ∙ a))
+        absurd (refused LongListing 0 (load-long s [] 24576 refl l .answer ∙ a))
 
 -- ---- what is handed back
 pub report-whole : (side : ℕ) (l : Loaded) (t : Tally) → l ≡ Whole t → record { number = 0; side = 0; line = 0 } ≡ reportOf side (readingShown l)

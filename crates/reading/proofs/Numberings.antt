@@ -7,9 +7,9 @@ use native.Mathlib.Omega.{arith}
 use native.Mathlib.Decide.{decLt}
 use lib.ListN.{length, getD, length-append, length-map, List·getD-append}
 use lib.Seq.{getD-append-seam, getD-append-add}
-use Rattle.reading.specs.Texts.{Text, onLast}
+use Rattle.text.specs.Texts.{Text, onLast}
 use Rattle.reading.proofs.Regions.{on-last-snoc}
-use Rattle.reading.proofs.Countings.{length-snoc}
+use Rattle.text.proofs.Indices.{length-snoc}
 
 -- ---- the last element changed
 module _ {A B : Type 0} (h : A → B) (xs : List A) (x y : A) where

@@ -6,26 +6,29 @@ use Prim.Native.Nat.{ℕ, _+_, _≤_}
 use native.Mathlib.Omega.{arith}
 use lib.ListN.{length, length-map}
 use lib.Bits.{bitOr}
-use Rattle.reading.specs.Texts.{Text, bytes, same, run, onLast}
-use Rattle.reading.specs.Records.{Record, mayFollow, isAmong, isKind, isStar, fieldsWhere, namesRole, namesMethod, declaredIn, rolesIn, methodsIn}
-use Rattle.reading.specs.Names.{nameFits, isMethodName}
-use Rattle.reading.specs.Listings.{Collected, Constrained, isEmpty, covers, admits, addMethod, addOmitted, addAllowed, inCollection, newConstraint, adds, constraintsIn}
-use Rattle.reading.specs.Listings as L
+use Rattle.text.specs.Texts.{Text, bytes, same, run, onLast, indexOf}
+use Rattle.listings.specs.Records.{Record, mayFollow, isAmong, isKind, isStar, fieldsWhere, namesRole, namesMethod, declaredIn, rolesIn, methodsIn}
+use Rattle.listings.specs.Names.{nameFits, isMethodName}
+use Rattle.listings.specs.Listings.{Collected, Constrained, isEmpty, covers, addMethod, addOmitted, addAllowed, inCollection, newConstraint, adds, constraintsIn}
+use Rattle.listings.specs.Listings as L
 use Rattle.reading.specs.Sets.{everything, withMember, withoutMember, lowest}
-use Rattle.reading.specs.Tables.{Tables, indexOf, indexed, isFirstMethod, fieldAdd, tablesOf, recordWith}
+use Rattle.listings.specs.Heads.{isFirstMethod}
+use Rattle.reading.specs.Tables.{Tables, indexed, fieldAdd, tablesOf, recordWith}
 use Rattle.reading.specs.Tables as Tab
-use Rattle.reading.specs.declared.records.Kind.{Kind}
-use Rattle.reading.specs.declared.records.Kind.the-variants.{Role, Constraint, Allow, Collection, Pattern, Method, Omit, End}
-use Rattle.reading.specs.declared.records.Place.{Place}
-use Rattle.reading.specs.declared.records.Place.the-variants.{AfterFirst, AfterRole, AfterOpen, AfterAuth, AfterAllow, AfterCollection, AfterPattern, AfterMethod, AfterOmit, AfterEnd}
-use Rattle.reading.proofs.Truths.{never}
+use Rattle.listings.specs.declared.records.Kind.{Kind}
+use Rattle.listings.specs.declared.records.Kind.the-variants.{Role, Constraint, Allow, Collection, Pattern, Method, Omit, End}
+use Rattle.listings.specs.declared.records.Place.{Place}
+use Rattle.listings.specs.declared.records.Place.the-variants.{AfterFirst, AfterRole, AfterOpen, AfterAuth, AfterAllow, AfterCollection, AfterPattern, AfterMethod, AfterOmit, AfterEnd}
+use Rattle.text.proofs.Truths.{never}
+use Rattle.text.proofs.Indices.{run-snoc, Once, once-distinct, Begins, begins-front}
 use Rattle.reading.proofs.Regions.{on-last-snoc}
-use Rattle.reading.proofs.Countings.{run-snoc, declared-snoc, tables-snoc}
-use Rattle.reading.proofs.Sound.{Passes, Sound, sound-none, sound-more, sound-few}
+use Rattle.reading.proofs.Countings.{declared-snoc, tables-snoc}
+use Rattle.listings.proofs.Sound.{Passes, Sound, sound-none, sound-more, sound-few}
 use Rattle.reading.proofs.Keeping.{Kept, kept}
 use Rattle.reading.proofs.Numberings.{map-last, map-kept, flat-snoc, flat-kept, flat-more, numbers, numbers-none, numbered-more}
-use Rattle.reading.proofs.Indices.{Once, once-distinct, Begins, begins-front, begins-indexed, settled}
+use Rattle.reading.proofs.Countings.{begins-indexed, settled}
 use Rattle.reading.proofs.Coverings.{coverIn, admitIn, empty-snoc, cover-new, cover-method, cover-omit, admit-new, admit-name, admit-star}
+use Rattle.reading.specs.Views.{admits}
 
 -- ---- the constraints as flat lists
 abbrev pub collectionsOf : List Constrained → List Collected

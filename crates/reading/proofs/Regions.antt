@@ -12,10 +12,10 @@ use lib.Seq.{take-set-le, drop-set-lt, drop-set-add, take-suc, take-suc-set, get
 use lib.Arith.{digits-div, digits-mod}
 use borrow.Author.Tests.{lt-ltb, le-ltb, eq-eqb, ne-eqb, eqb-true}
 use lib.Dec.{eqb}
-use Rattle.reading.specs.Texts.{Text, same, onLast, part}
-use Rattle.reading.specs.Tables.{region, stampOf, packed, stamped, textAt, textsAt, indexOf, indexed}
-use Rattle.reading.proofs.Truths.{not-so}
-use Rattle.reading.proofs.Spans.{same-equal}
+use Rattle.text.specs.Texts.{Text, same, onLast, part, indexOf}
+use Rattle.reading.specs.Tables.{region, stampOf, packed, stamped, textAt, textsAt, indexed}
+use Rattle.text.proofs.Truths.{not-so}
+use Rattle.text.proofs.Spans.{same-equal}
 
 -- ---- stamps
 -- the empty text's
@@ -199,16 +199,6 @@ module _ (s t : Text) (w : List ℕ) (a n k : ℕ) (room : a + n ≤ length w) w
     index-none h =
         let l : length (textsAt s (region w a n)) ≤ k = rw (texts-length s (region w a n), region-length w a n room) h in
         sym (v ∙ rw (drop-of-length-le (textsAt s (region w a n)) l) (add-zero k))
-
--- what is found stands among them, and what is not found has their number
-pub index-bound : (t : Text) (us : List Text) → indexOf t us ≤ length us
-unfolding indexOf
-index-bound t [] = omega arith
-index-bound t (u ∷ us) = go (same u t) (index-bound t us)
-  where
-    go : (b : Bool) → indexOf t us ≤ length us → cond b 0 (suc (indexOf t us)) ≤ suc (length us)
-    go true h = omega arith
-    go false h = omega arith
 
 pub indexed-known : (t : Text) (us : List Text) → indexOf t us < length us → indexed t us ≡ us
 unfolding indexed

@@ -6,14 +6,14 @@ use Prim.Native.Nat.{ℕ, zero, suc, _≤_, _<_}
 use native.Mathlib.Omega.{arith}
 use lib.ListN.{length, getD, length-map, List·getD-map}
 use lib.Dec.{eqb}
-use Rattle.reading.specs.Texts.{Text}
-use Rattle.reading.specs.Records.{Record}
-use Rattle.reading.specs.Listings.{Collected, Constrained, Listing, Rule, isEmpty, covers, closes, rulesInCollection, rulesInConstraint, rulesOf, listingIn}
-use Rattle.reading.specs.Views.{patternsOf, coverSet, admitSet, accessOf, coverAt, accessAt}
+use Rattle.text.specs.Texts.{Text}
+use Rattle.listings.specs.Records.{Record}
+use Rattle.listings.specs.Listings.{Collected, Constrained, Listing, Rule, isEmpty, covers, closes, rulesInCollection, rulesInConstraint, rulesOf, listingIn, patternsOf}
+use Rattle.reading.specs.Views.{coverSet, admitSet, accessOf, coverAt, accessAt}
 use Rattle.reading.specs.Tables.{Tables, tablesOf}
 use Rattle.reading.specs.declared.held.Access.{Access}
 use Rattle.reading.specs.declared.held.Access.the-variants.{Open, Closed, ByRole}
-use Rattle.reading.proofs.Sound.{Sound}
+use Rattle.listings.proofs.Sound.{Sound}
 use Rattle.reading.proofs.Keeping.{kept}
 use Rattle.reading.proofs.Numberings.{flat-map, flat-flat, flat-same, numbers, numbers-length, numbers-bound, looked-up}
 use Rattle.reading.proofs.Pictures.{collectionsOf, patternsIn, markOf, pictured}

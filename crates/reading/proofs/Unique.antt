@@ -4,9 +4,9 @@ use mathlib.Core.List.{List}
 use Prim.Native.Nat.{ℕ, _≤_}
 use lib.ListN.{length, drop}
 use borrow.Author.Tests.{le-ltb}
-use Rattle.reading.specs.Texts.{Text}
+use Rattle.text.specs.Texts.{Text}
 use Rattle.reading.specs.Outcomes.{workSize, zeroed, workAfter, readReport, ReadOutcome}
-use Rattle.reading.specs.declared.answers.Report.{Report}
+use Rattle.listings.specs.declared.answers.Report.{Report}
 
 -- two outcomes that both satisfy the statement are equal
 pub read-unique : (s : Text) (w : List ℕ) (r r′ : Report) (l l′ : List ℕ) → ReadOutcome s w r l → ReadOutcome s w r′ l′ → (r ≡ r′) × (l ≡ l′)

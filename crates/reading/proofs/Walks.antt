@@ -11,19 +11,19 @@ use lib.Dec.{eqb, ltb}
 use borrow.Author.Tests.{lt-ltb, le-ltb}
 use lib.Seq.{drop-cons}
 use lib.ListN.{length, take, drop, getD, drop-of-length-le}
-use Rattle.reading.specs.Texts.{Text, newline, part}
-use Rattle.reading.specs.Lines.{Line, before, linesOf, toFieldEnd}
-use Rattle.reading.specs.Records.{Record, isKind, formed, alone, withField, recordNamed}
+use Rattle.text.specs.Texts.{Text, newline, part}
+use Rattle.text.specs.Lines.{Line, before, linesOf, toFieldEnd}
+use Rattle.listings.specs.Records.{Record, isKind, formed, alone, withField, recordNamed}
 use Rattle.reading.specs.Tables.{Tables, Fits, Stepping, next, wrong, Lining, bad, moved, ended, Filling, filled, unfilled, closing, fillFrom, fillShown, FillFits, FillOutcome, closedAt, startTables, region, textsAt, lineShown, stepFrom, recordWith, isEndKind, linedBy, lineWith, lineFrom, tablesAt, stepShown, StepFits, StepOutcome, LineEnd, Gone, LineFits, LineOutcome}
 use Rattle.reading.specs.Tallies.{startTally}
 use Rattle.reading.specs.declared.reader.Loaded.{Loaded}
 use Rattle.reading.specs.declared.reader.Loaded.the-variants.{Whole, Not}
-use Rattle.reading.specs.declared.records.Kind.{Kind}
-use Rattle.reading.specs.declared.records.Kind.the-variants.{End}
-use Rattle.reading.specs.declared.records.Named.{Named}
-use Rattle.reading.specs.declared.records.Named.the-variants.{Known, Unknown}
-use Rattle.reading.specs.declared.answers.Fault.{Fault}
-use Rattle.reading.specs.declared.answers.Fault.the-variants.{BadForm, NoEnd}
+use Rattle.listings.specs.declared.records.Kind.{Kind}
+use Rattle.listings.specs.declared.records.Kind.the-variants.{End}
+use Rattle.listings.specs.declared.records.Named.{Named}
+use Rattle.listings.specs.declared.records.Named.the-variants.{Known, Unknown}
+use Rattle.listings.specs.declared.answers.Fault.{Fault}
+use Rattle.listings.specs.declared.answers.Fault.the-variants.{BadForm, NoEnd}
 use Rattle.reading.specs.declared.tables.Tally.{Tally}
 use Rattle.reading.specs.declared.steps.Stepped.{Stepped}
 use Rattle.reading.specs.declared.steps.Stepped.the-variants.{Next, Wrong}

@@ -5,9 +5,9 @@ use mathlib.Core.Bool.{Bool, true, false, cond}
 use mathlib.Core.List.{List, _++_}
 use lib.ListN.{length, replicate, drop}
 use lib.Dec.{ltb}
-use Rattle.reading.specs.Texts.{Text}
-use Rattle.reading.specs.Refusals.{Reading, accepted, refusal, numberOf, readingOf}
-use Rattle.reading.specs.declared.answers.Report.{Report}
+use Rattle.text.specs.Texts.{Text}
+use Rattle.listings.specs.Refusals.{Reading, accepted, refusal, numberOf, shortTable, readingOf}
+use Rattle.listings.specs.declared.answers.Report.{Report}
 
 abbrev pub workSize : ℕ
 workSize = 4096
@@ -23,7 +23,7 @@ reportOf side (refusal f n) = record { number = numberOf f; side = side; line = 
 
 -- refusal 1 has side 0 and line 0
 abbrev pub shortReport : Report
-shortReport = record { number = 1; side = 0; line = 0 }
+shortReport = record { number = shortTable; side = 0; line = 0 }
 
 -- the first n numbers zero, and the rest as before
 unfoldable pub zeroed : ℕ → List ℕ → List ℕ

@@ -7,22 +7,20 @@ use mathlib.Core.Option.{Option, none, some}
 use lib.ListN.{length, take, drop, getD}
 use lib.Dec.{eqb, ltb, leb}
 use lib.Bits.{bitOr}
-use Rattle.reading.specs.Texts.{Text, bytes, same, startsWith, run, onLast, part}
-use Rattle.reading.specs.Lines.{Line, linesOf}
-use Rattle.reading.specs.Records.{Record, formed, placeOf, mayFollow, isKind, isStar}
-use Rattle.reading.specs.Names.{isRoleName, isName, isMethodName, isPattern, isConstraintKind}
-use Rattle.reading.specs.Limits.{mostConstraints, mostCollections, mostPatterns, mostMethodLines, mostRoles, mostMethods}
+use Rattle.text.specs.Texts.{Text, bytes, same, run, onLast, part, indexOf}
+use Rattle.text.specs.Lines.{Line, linesOf}
+use Rattle.listings.specs.Records.{Record, formed, placeOf, mayFollow, isKind, isStar}
+use Rattle.listings.specs.Heads.{isFirstMethod}
+use Rattle.listings.specs.Names.{isRoleName, isName, isMethodName, isPattern, isConstraintKind}
+use Rattle.listings.specs.Limits.{mostConstraints, mostCollections, mostPatterns, mostMethodLines, mostRoles, mostMethods}
 use Rattle.reading.specs.Sets.{withMember, withoutMember, everything, lowest}
-use Rattle.reading.specs.declared.records.Kind.{Kind}
-use Rattle.reading.specs.declared.records.Kind.the-variants.{Role, Constraint, Allow, Collection, Pattern, Method, Omit, End}
-use Rattle.reading.specs.declared.records.Named.the-variants.{Known, Unknown}
-use Rattle.reading.specs.declared.records.Headed.{Headed}
-use Rattle.reading.specs.declared.records.Place.{Place}
-use Rattle.reading.specs.declared.records.Place.the-variants.{AfterFirst, AfterRole, AfterOpen, AfterAuth, AfterAllow, AfterCollection, AfterPattern, AfterMethod, AfterOmit, AfterEnd}
-use Rattle.reading.specs.declared.answers.Fault.{Fault}
-use Rattle.reading.specs.declared.answers.Fault.the-variants.{LongListing, BadFirstLine, BadForm, WrongPlace, BadName, BadPattern, RoleTwice, PastMost, NoEnd}
-use Rattle.reading.specs.Refusals.{Reading, accepted, refusal, readingOf}
-use Rattle.reading.specs.Listings.{recordsOf}
+use Rattle.listings.specs.declared.records.Kind.{Kind}
+use Rattle.listings.specs.declared.records.Kind.the-variants.{Role, Constraint, Allow, Collection, Pattern, Method, Omit, End}
+use Rattle.listings.specs.declared.records.Place.{Place}
+use Rattle.listings.specs.declared.records.Place.the-variants.{AfterFirst, AfterRole, AfterOpen, AfterAuth, AfterAllow, AfterCollection, AfterPattern, AfterMethod, AfterOmit, AfterEnd}
+use Rattle.listings.specs.declared.answers.Fault.{Fault}
+use Rattle.listings.specs.declared.answers.Fault.the-variants.{LongListing, BadFirstLine, BadForm, WrongPlace, BadName, BadPattern, RoleTwice, PastMost, NoEnd}
+use Rattle.listings.specs.Refusals.{Reading, accepted, refusal, readingOf}
 use Rattle.reading.specs.declared.tables.Tally.{Tally}
 use Rattle.reading.specs.declared.steps.Stepped.{Stepped}
 use Rattle.reading.specs.declared.steps.Stepped.the-variants.{Next, Wrong}
@@ -66,12 +64,6 @@ startTables = record {
   allows = [];
   marks = [];
 }
-
--- the place of t among the texts, or their number where it is none of them
-unfoldable pub indexOf : Text → List Text → ℕ
-unfolding same
-indexOf t [] = 0
-indexOf t (u ∷ us) = cond (same u t) 0 (suc (indexOf t us))
 
 -- t put behind them, if it is none of them
 unfoldable pub indexed : Text → List Text → List Text
@@ -157,19 +149,6 @@ addPattern T t = record {
   allows = T .allows;
   marks = T .marks;
 }
-
--- the first `method` line of a collection takes all others out
-abbrev pub isFirstMethod : Place → Bool
-isFirstMethod AfterFirst = false
-isFirstMethod AfterRole = false
-isFirstMethod AfterOpen = false
-isFirstMethod AfterAuth = false
-isFirstMethod AfterAllow = false
-isFirstMethod AfterCollection = false
-isFirstMethod AfterPattern = true
-isFirstMethod AfterMethod = false
-isFirstMethod AfterOmit = false
-isFirstMethod AfterEnd = false
 
 abbrev pub addMethodTo : Tables → Text → ℕ → ℕ
 addMethodTo T m x = withMember (cond (isFirstMethod (T .place)) 0 x) (indexOf m (T .methods))
@@ -294,17 +273,6 @@ unfoldable pub checkRecord : Tables → Record → Option Fault
 unfolding fieldCheck
 checkRecord T r = cond (mayFollow (T .place) (r .kind)) (fieldCheck (r .kind) T (r .field)) (some WrongPlace)
 
--- the places that a record of that kind may follow: a binary digit for each, by its number
-abbrev pub placesOf : Kind → ℕ
-placesOf Role = 3
-placesOf Constraint = 451
-placesOf Allow = 24
-placesOf Collection = 476
-placesOf Pattern = 96
-placesOf Method = 192
-placesOf Omit = 320
-placesOf End = 451
-
 -- ---- a step, a line, and all of them
 pub data Stepping : Type 0 where
   next : Tables → Stepping
@@ -320,31 +288,6 @@ recordWith k t = record { kind = k; field = t }
 unfoldable pub stepFrom : Tables → Record → Stepping
 unfolding checkRecord fieldAdd
 stepFrom T r = steppedBy (checkRecord T r) (tablesWith T r)
-
--- ---- how a line begins: with a record's name, and a tab behind it or the line's end
-abbrev pub headed : Kind → ℕ → Headed
-headed k n = record { named = Known k; size = n }
-
-abbrev pub unheaded : Headed
-unheaded = record { named = Unknown; size = 0 }
-
-unfoldable pub headOfPart : Text → Headed
-unfolding startsWith
-headOfPart t =
-    cond (startsWith (bytes "role\t") t) (headed Role 5)
-    (cond (startsWith (bytes "constraint\t") t) (headed Constraint 11)
-    (cond (startsWith (bytes "collection\n") t) (headed Collection 10)
-    (cond (startsWith (bytes "end\n") t) (headed End 3)
-    unheaded)))
-
-unfoldable pub headOf : Text → Headed
-unfolding startsWith headOfPart
-headOf t =
-    cond (startsWith (bytes "method\t") t) (headed Method 7)
-    (cond (startsWith (bytes "omit\t") t) (headed Omit 5)
-    (cond (startsWith (bytes "pattern\t") t) (headed Pattern 8)
-    (cond (startsWith (bytes "allow\t") t) (headed Allow 6)
-    (headOfPart t))))
 
 -- what a line comes to: a fault, or the tables after it and the lines behind it, `end` told apart
 pub data Lining : Type 0 where
@@ -543,23 +486,3 @@ FillFits s (Not f n) w = Unit {0}
 pub record FillOutcome (s : Text) (due : Filling) (out : Loaded) (w : List ℕ) : Type 0 where
   pub answer : fillShown s out w ≡ due
   pub fits : FillFits s out w
-
--- ---- what the crates above know
--- the table, with its counts, holds the listing that the text is
-pub record Holds (s : Text) (t : Tally) (w : List ℕ) : Type 0 where
-  pub accepts : readingOf s ≡ accepted
-  pub tables : tablesAt s t w ≡ tablesOf (recordsOf s)
-  pub fits : Fits s t w
-
--- what reading answered
-abbrev pub readingShown : Loaded → Reading
-readingShown (Whole t) = accepted
-readingShown (Not f n) = refusal f n
-
-abbrev pub LoadHolds : Text → Loaded → List ℕ → Type 0
-LoadHolds s (Whole t) w = Holds s t w
-LoadHolds s (Not f n) w = Unit {0}
-
-pub record LoadOutcome (s : Text) (out : Loaded) (w : List ℕ) : Type 0 where
-  pub answer : readingShown out ≡ readingOf s
-  pub holds : LoadHolds s out w

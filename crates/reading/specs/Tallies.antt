@@ -1,7 +1,7 @@
 -- The counts of the work table after each record.
 use Prim.Native.Nat.{ℕ, _+_}
-use Rattle.reading.specs.declared.records.Place.{Place}
-use Rattle.reading.specs.declared.records.Place.the-variants.{AfterFirst, AfterRole, AfterAllow, AfterCollection, AfterPattern}
+use Rattle.listings.specs.declared.records.Place.{Place}
+use Rattle.listings.specs.declared.records.Place.the-variants.{AfterFirst, AfterRole, AfterAllow, AfterCollection, AfterPattern}
 use Rattle.reading.specs.declared.tables.Tally.{Tally}
 
 abbrev pub startTally : Tally

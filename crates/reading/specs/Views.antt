@@ -1,24 +1,25 @@
--- What the crates above ask of an accepted listing, rule by rule: a rule is a `pattern` line with its collection and its constraint.
+-- What `held` answers of an accepted listing, rule by rule, as sets: a rule is a `pattern` line with its collection and its constraint. For the proofs alone,
+-- which show that the decisions made of these sets are those of Decisions.
 use Prim.Native.Nat.{ℕ}
-use mathlib.Core.Bool.{Bool, true, false, cond, _&&_}
+use mathlib.Core.Bool.{Bool, true, false, not, cond, _&&_, _||_}
 use mathlib.Core.List.{List, [], _∷_, map}
 use lib.ListN.{length, getD}
 use lib.Dec.{ltb}
-use Rattle.reading.specs.Texts.{Text}
-use Rattle.reading.specs.Listings.{Collected, Constrained, Listing, Rule, covers, closes, admits, rulesOf}
+use Rattle.text.specs.Texts.{Text, bytes, same, member}
+use Rattle.listings.specs.Listings.{Collected, Constrained, Listing, Rule, covers, closes, rulesOf}
 use Rattle.reading.specs.Sets.{setOf}
 use Rattle.reading.specs.declared.held.Access.{Access}
 use Rattle.reading.specs.declared.held.Access.the-variants.{Open, Closed, ByRole}
-
--- the pattern texts, line by line
-unfoldable pub patternsOf : Listing → List Text
-unfolding rulesOf
-patternsOf l = map (λ (r : Rule). r .text) (rulesOf l)
 
 -- digit i: the collection covers method i of the listing; from the number of its methods on: it covers those that nothing names
 unfoldable pub coverSet : Listing → Collected → ℕ
 unfolding setOf covers
 coverSet l c = setOf 32 (λ i. covers c (getD (l .methods) i []))
+
+-- n is one of the allowed roles, "`*` adding all declared ones"
+unfoldable pub admits : List Text → Constrained → Text → Bool
+unfolding member
+admits declared c n = (not (same n (bytes "*")) && member n (c .allowed)) || (member (bytes "*") (c .allowed) && member n declared)
 
 -- digit i: the constraint allows role i of the listing, by its name or by `*`
 unfoldable pub admitSet : Listing → Constrained → ℕ

@@ -4,9 +4,10 @@ ghost use mathlib.Core.Path.{_≡_};
 ghost use Prim.Native.Nat.{_<_};
 ghost use mathlib.Core.List.{[]};
 ghost use lib.ListN.{length, getD};
-ghost use Rattle.reading.specs.Listings.{listingOf};
-ghost use Rattle.reading.specs.Tables.{Holds, indexOf};
-ghost use Rattle.reading.specs.Views.{patternsOf, coverAt, accessAt};
+ghost use Rattle.listings.specs.Listings.{listingOf, patternsOf};
+ghost use Rattle.text.specs.Texts.{indexOf};
+ghost use Rattle.reading.specs.Holds.{Holds};
+ghost use Rattle.reading.specs.Views.{coverAt, accessAt};
 use crate::tables;
 use crate::tables::Tally;
 

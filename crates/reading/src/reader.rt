@@ -2,24 +2,27 @@
 ghost use mathlib.Core.Path.{_≡_};
 ghost use Prim.Native.Nat.{_+_, _≤_, _<_};
 ghost use lib.ListN.{length, drop};
-ghost use Rattle.reading.specs.Texts.{bytes, all, part, startsWith};
-ghost use Rattle.reading.specs.Bytes.{isText, classTable};
-ghost use Rattle.reading.specs.Lines.{linesOf};
-ghost use Rattle.reading.specs.Records.{recordNamed};
-ghost use Rattle.reading.specs.Refusals.{readingOf};
+ghost use Rattle.text.specs.Texts.{bytes, all, part, startsWith};
+ghost use Rattle.text.specs.Bytes.{isText, classTable};
+ghost use Rattle.text.specs.Lines.{linesOf};
+ghost use Rattle.listings.specs.Records.{recordNamed};
+ghost use Rattle.listings.specs.Refusals.{readingOf};
 ghost use Rattle.reading.specs.Outcomes.{reportOf, zeroed, ReadOutcome};
-ghost use Rattle.reading.specs.Tables.{Fits, Field, LineEnd, LineOutcome, FillOutcome, LoadOutcome, lineWith, lineFrom, fillFrom, tablesAt, startTables, isEndKind, closedAt, readingShown};
-use crate::answers;
-use crate::answers::Fault;
-use crate::answers::Report;
-use crate::bytes;
-use crate::records;
-use crate::records::Kind;
-use crate::records::Named;
+ghost use Rattle.reading.specs.Tables.{Fits, Field, LineEnd, LineOutcome, FillOutcome, lineWith, lineFrom, fillFrom, tablesAt, startTables, isEndKind, closedAt};
+ghost use Rattle.reading.specs.Holds.{LoadOutcome, readingShown};
+use crate::lines;
 use crate::steps;
 use crate::steps::Stepped;
 use crate::tables::Tally;
-use crate::texts;
+use listings::answers;
+use listings::answers::Fault;
+use listings::answers::Report;
+use listings::limits::Counted;
+use listings::limits::most;
+use listings::records::Kind;
+use listings::records::Named;
+use text::bytes;
+use text::texts;
 
 // A place in the listing: the next byte, and the number of its line.
 pub struct Cursor {
@@ -105,20 +108,12 @@ pub fn line(table: &[u8; 256], s: &[u8], w: &mut [u32], t: Tally, c: Cursor) -> 
     requires { ⌜ (now table ≡ classTable) × (Fits (now s) t (now w) × ((c .at < length (now s)) × (c .line ≤ 100000))) ⌝ }
     ensures { λ r. ⌜ LineOutcome (now (s .entry)) c (lineFrom (tablesAt (now (s .entry)) t (now (w .entry))) (linesOf (drop (c .at) (now (s .entry))))) r (now (w .exit)) ⌝ }
 {
-    let at = c.at;
-    let head = records::head(&s[at..]);
-    let named = head.named;
-    let a = at + head.size;
-    let field = texts::scan(table, s, a);
-    let e = field.end;
-    let clean = field.clean;
-    if s.len() <= e {
+    let cut = lines::line_at(table, s, c.at);
+    if !cut.whole {
         return Lined::Bad(Fault::BadForm);
     }
-    if s[e] != 10 {
-        return Lined::Bad(Fault::BadForm);
-    }
-    line_named(table, s, w, t, c, named, a, e, clean)
+    let named = cut.named;
+    line_named(table, s, w, t, c, named, cut.from, cut.end, cut.clean)
 }
 
 // The lines behind the first.
@@ -166,7 +161,7 @@ pub fn load(s: &[u8], w: &mut [u32]) -> Loaded
     requires { ⌜ 720 ≤ length (now w) ⌝ }
     ensures { λ r. ⌜ LoadOutcome (now (s .entry)) r (now (w .exit)) ⌝ }
 {
-    if 24576 < s.len() {
+    if most(Counted::Bytes) < s.len() {
         return Loaded::Not(Fault::LongListing, 0);
     }
     if !has_first_line(s) {
@@ -228,7 +223,7 @@ pub extern "C" fn budquarry_read(listing: &[u8], work: &mut [u32]) -> Report
 {
     if work.len() < WORK {
         return Report {
-            number: 1,
+            number: answers::SHORT_TABLE,
             side: 0,
             line: 0,
         };

@@ -1,16 +1,18 @@
 // What one record does: it is refused, or the table grows by it. A record is its kind and its field, the bytes of s from a up to e.
 ghost use mathlib.Core.Path.{_≡_};
-ghost use Rattle.reading.specs.Texts.{all, part};
-ghost use Rattle.reading.specs.Bytes.{isText, classTable};
+ghost use Rattle.text.specs.Texts.{all, part};
+ghost use Rattle.text.specs.Bytes.{isText, classTable};
 ghost use Rattle.reading.specs.Tables.{Field, Steps, StepOutcome, stepFrom, checkRole, checkConstraint, checkAllow, checkCollection, checkPattern, checkMethod, fieldCheck, addRole, addConstraint, addAllow, addCollection, addPattern, addMethod, addOmit, fieldAdd, tablesAt, recordWith};
-use crate::answers::Fault;
-use crate::names;
-use crate::records;
-use crate::records::Kind;
-use crate::records::Place;
 use crate::tables;
 use crate::tables::Tally;
-use crate::texts;
+use listings::answers::Fault;
+use listings::limits::Counted;
+use listings::limits::most;
+use listings::names;
+use listings::records;
+use listings::records::Kind;
+use listings::records::Place;
+use text::texts;
 
 pub enum Stepped {
     Next(Tally),
@@ -29,7 +31,7 @@ pub fn role(s: &[u8], w: &mut [u32], t: Tally, a: usize, e: usize, clean: bool) 
     if tables::index(s, w, tables::ROLES, n, &s[a..e]) < n {
         return Stepped::Wrong(Fault::RoleTwice);
     }
-    if 32 <= n {
+    if most(Counted::Roles) <= n {
         return Stepped::Wrong(Fault::PastMost);
     }
     tables::put_text(s, w, tables::ROLES + n, a, e);
@@ -45,7 +47,7 @@ pub fn constraint(s: &[u8], w: &mut [u32], t: Tally, a: usize, e: usize) -> Step
     if !names::is_constraint_kind(&s[a..e]) {
         return Stepped::Wrong(Fault::BadName);
     }
-    if 64 <= n {
+    if most(Counted::Constraints) <= n {
         return Stepped::Wrong(Fault::PastMost);
     }
     if texts::are_same(&s[a..e], b"open") {
@@ -76,7 +78,7 @@ pub fn allow(s: &[u8], w: &mut [u32], t: Tally, a: usize, e: usize, clean: bool)
         tables::allow_role(w, c, i);
         return Stepped::Next(t.at(Place::AfterAllow));
     }
-    if 32 <= n {
+    if most(Counted::Roles) <= n {
         return Stepped::Wrong(Fault::PastMost);
     }
     tables::put_text(s, w, tables::ROLES + n, a, e);
@@ -90,7 +92,7 @@ pub fn collection(s: &[u8], w: &mut [u32], t: Tally, a: usize, e: usize) -> Step
     ensures { λ r. ⌜ Steps checkCollection addCollection (now (s .entry)) t (now (w .entry)) a e r (now (w .exit)) ⌝ }
 {
     let n = t.collections;
-    if 128 <= n {
+    if most(Counted::Collections) <= n {
         return Stepped::Wrong(Fault::PastMost);
     }
     w[tables::COVERS + 1 + n] = 4294967295;
@@ -108,7 +110,7 @@ pub fn pattern(s: &[u8], w: &mut [u32], t: Tally, a: usize, e: usize, clean: boo
     if !names::is_pattern(&s[a..e], clean) {
         return Stepped::Wrong(Fault::BadPattern);
     }
-    if 128 <= n {
+    if most(Counted::Patterns) <= n {
         return Stepped::Wrong(Fault::PastMost);
     }
     tables::put_pattern(s, w, n, a, e, c, k);
@@ -128,7 +130,7 @@ pub fn method(table: &[u8; 256], s: &[u8], w: &mut [u32], t: Tally, a: usize, e:
     if !names::is_method_name(table, &s[a..e]) {
         return Stepped::Wrong(Fault::BadName);
     }
-    if 512 <= lines {
+    if most(Counted::MethodLines) <= lines {
         return Stepped::Wrong(Fault::PastMost);
     }
     let i = tables::index(s, w, tables::METHODS, n, &s[a..e]);
@@ -136,7 +138,7 @@ pub fn method(table: &[u8; 256], s: &[u8], w: &mut [u32], t: Tally, a: usize, e:
         tables::cover(w, c, fresh, i);
         return Stepped::Next(t.with_line(Place::AfterMethod));
     }
-    if 31 <= n {
+    if most(Counted::Methods) <= n {
         return Stepped::Wrong(Fault::PastMost);
     }
     tables::put_text(s, w, tables::METHODS + n, a, e);
@@ -155,7 +157,7 @@ pub fn omit(table: &[u8; 256], s: &[u8], w: &mut [u32], t: Tally, a: usize, e: u
     if !names::is_method_name(table, &s[a..e]) {
         return Stepped::Wrong(Fault::BadName);
     }
-    if 512 <= lines {
+    if most(Counted::MethodLines) <= lines {
         return Stepped::Wrong(Fault::PastMost);
     }
     let i = tables::index(s, w, tables::METHODS, n, &s[a..e]);
@@ -163,7 +165,7 @@ pub fn omit(table: &[u8; 256], s: &[u8], w: &mut [u32], t: Tally, a: usize, e: u
         tables::uncover(w, c, i);
         return Stepped::Next(t.with_line(Place::AfterOmit));
     }
-    if 31 <= n {
+    if most(Counted::Methods) <= n {
         return Stepped::Wrong(Fault::PastMost);
     }
     tables::put_text(s, w, tables::METHODS + n, a, e);

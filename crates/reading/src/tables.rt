@@ -5,11 +5,11 @@ ghost use lib.ListN.{length, set, getD};
 ghost use lib.Bits.{bitOr};
 ghost use mathlib.Core.Bool.{cond};
 ghost use Rattle.reading.specs.Sets.{withMember, withoutMember, lowest};
-ghost use Rattle.reading.specs.Texts.{same};
-ghost use Rattle.reading.specs.Tables.{indexOf, stampOf, packed, textAt, textsAt, region};
+ghost use Rattle.text.specs.Texts.{same, indexOf};
+ghost use Rattle.reading.specs.Tables.{stampOf, packed, textAt, textsAt, region};
 ghost use Rattle.reading.specs.Tallies.{startTally, tallyAt, tallyRole, tallyConstraint, tallyAllowed, tallyCollection, tallyPattern, tallyLine, tallyMethod};
-use crate::records::Place;
-use crate::texts;
+use listings::records::Place;
+use text::texts;
 
 pub const ROLES: usize = 0;
 

@@ -17,7 +17,7 @@ same-length-2 : tie.Need-same-length-2
 same-length-2 c = search needs
 
 returns : tie.Need-returns
-returns c = (search (needs, answer-size), (search (needs, answer-bytes), search (needs, answer-counts)))
+returns c = (record { counted = search (needs, answer-size); printed = search (needs, answer-bytes); worked = search needs }, search (needs, answer-counts))
 
 put-refusal-requires : tie.Need-put-refusal-requires
 put-refusal-requires c κs = search needs
@@ -29,7 +29,10 @@ same-length-4 : tie.Need-same-length-4
 same-length-4 c = search needs
 
 returns-2 : tie.Need-returns-2
-returns-2 c = (search (needs, refused-size), (search (needs, refused-bytes), search (needs, written-counts, refused-size, refused-bytes)))
+returns-2 c = (
+  record { counted = search (needs, refused-size); printed = search (needs, refused-bytes); worked = search needs },
+  search (needs, written-counts),
+)
 
 pub compare-into-spec : {M : Type 1} → statement M
 compare-into-spec =

@@ -2,7 +2,7 @@
 use borrow.Author.Needs.{needs}
 use Prim.Native.Nat.{_-_}
 use lib.ListN.{length}
-use Rattle.reading.specs.Listings.{listingOf}
+use Rattle.listings.specs.Listings.{listingOf}
 use Rattle.deciding.proofs.Callings.{Naming, names-begin, name-open, name-tabbed, name-wrong, name-past, name-read, names-end}
 use Rattle.deciding.proofs.callers.holder.Statement.{statement}
 use Rattle.deciding.proofs.callers.holder.Tie as tie

@@ -2,7 +2,7 @@
 use borrow.Author.Needs.{needs}
 use mathlib.Core.Path.{_≡_}
 use Prim.Native.Nat.{_-_, _≤_}
-use Rattle.reading.specs.Listings.{listingOf}
+use Rattle.listings.specs.Listings.{listingOf}
 use Rattle.deciding.specs.Joinings.{joinedUpTo}
 use Rattle.deciding.proofs.Turns.{join-start, join-past, join-takes, join-end}
 use Rattle.deciding.proofs.decisions.join_lines.Statement.{statement}

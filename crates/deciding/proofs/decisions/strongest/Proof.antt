@@ -3,8 +3,7 @@ use borrow.Author.Needs.{needs}
 use mathlib.Core.Path.{_≡_}
 use Prim.Native.Nat.{_-_}
 use lib.ListN.{take}
-use Rattle.reading.specs.Listings.{listingOf}
-use Rattle.reading.specs.Views.{patternsOf}
+use Rattle.listings.specs.Listings.{listingOf, patternsOf}
 use Rattle.deciding.specs.Strengths.{leading}
 use Rattle.deciding.proofs.Matchings.{lead-none, lead-few, lead-short, lead-step, lead-count, lead-all}
 use Rattle.deciding.proofs.decisions.strongest.Statement.{statement}

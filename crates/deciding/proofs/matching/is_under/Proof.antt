@@ -1,6 +1,6 @@
 -- `matching::is_under` meets its contract: the path starts with P, and ends there or goes on with `/`.
 use borrow.Author.Needs.{needs}
-use Rattle.reading.proofs.Namings.{tests}
+use Rattle.listings.proofs.Namings.{tests}
 use Rattle.deciding.proofs.Matchings.{under-is, under-within, eqb-held, eqb-failed}
 use Rattle.deciding.proofs.matching.is_under.Statement.{statement}
 use Rattle.deciding.proofs.matching.is_under.Tie as tie

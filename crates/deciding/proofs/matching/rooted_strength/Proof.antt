@@ -3,7 +3,7 @@ use borrow.Author.Needs.{needs}
 use mathlib.Core.Path.{sym}
 use native.Mathlib.Omega.{arith}
 use lib.Seq.{length-take-le}
-use Rattle.reading.proofs.Truths.{ladder}
+use Rattle.text.proofs.Truths.{ladder}
 use Rattle.deciding.specs.Strengths.{rootedStrength}
 use Rattle.deciding.proofs.Matchings.{ended-long, ended-strength}
 use Rattle.deciding.proofs.matching.rooted_strength.Statement.{statement}

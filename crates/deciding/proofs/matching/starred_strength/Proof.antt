@@ -1,8 +1,8 @@
 -- `matching::starred_strength` meets its contract, test by test.
 use borrow.Author.Needs.{needs}
 use borrow.Author.Tests.{not-false}
-use Rattle.reading.proofs.Truths.{ladder}
-use Rattle.reading.proofs.Namings.{starred-long}
+use Rattle.text.proofs.Truths.{ladder}
+use Rattle.listings.proofs.Namings.{starred-long}
 use Rattle.deciding.proofs.Matchings.{starred-is}
 use Rattle.deciding.proofs.matching.starred_strength.Statement.{statement}
 use Rattle.deciding.proofs.matching.starred_strength.Tie as tie

@@ -1,6 +1,6 @@
 -- `matching::strength_of` meets its contract, test by test.
 use borrow.Author.Needs.{needs}
-use Rattle.reading.proofs.Truths.{ladder}
+use Rattle.text.proofs.Truths.{ladder}
 use Rattle.deciding.proofs.Matchings.{strength-is}
 use Rattle.deciding.proofs.matching.strength_of.Statement.{statement}
 use Rattle.deciding.proofs.matching.strength_of.Tie as tie

@@ -1,6 +1,6 @@
 use borrow.Author.Needs.{needs}
 use Rattle.reading.specs.Tables.{closedAt}
-use Rattle.reading.proofs.Truths.{ladder}
+use Rattle.text.proofs.Truths.{ladder}
 use Rattle.reading.proofs.reader.closed.Statement.{statement}
 use Rattle.reading.proofs.reader.closed.Tie as tie
 use Rattle.reading.proofs.reader.closed.Reads as reads

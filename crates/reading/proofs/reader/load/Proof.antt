@@ -4,7 +4,7 @@ use Rattle.reading.proofs.reader.load.Statement.{statement}
 use Rattle.reading.proofs.reader.load.Tie as tie
 use Rattle.reading.proofs.reader.load.Reads as reads
 use Rattle.reading.proofs.reader.load.Lts as lts
-use Rattle.reading.proofs.bytes.classes.Reads as classes-reads
+use Rattle.text.proofs.bytes.classes.Reads as classes-reads
 use Rattle.reading.proofs.reader.fill.Reads as fill-reads
 use Rattle.reading.proofs.reader.has_first_line.Reads as has-first-line-reads
 
@@ -40,6 +40,7 @@ pub load-spec : {M : Type 1} → statement M
 load-spec =
     tie.close
     (tie.spec
+    (search needs)
     returns
     has-first-line-requires
     returns-2

@@ -4,7 +4,7 @@ use Rattle.reading.proofs.reader.report.Statement.{statement}
 use Rattle.reading.proofs.reader.report.Tie as tie
 use Rattle.reading.proofs.reader.report.Reads as reads
 use Rattle.reading.proofs.reader.report.Lts as lts
-use Rattle.reading.proofs.answers.number.Reads as number-reads
+use Rattle.listings.proofs.answers.number.Reads as number-reads
 
 -- src/reader.rt:194:29
 enum-told : tie.Need-enum-told

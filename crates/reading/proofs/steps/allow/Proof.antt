@@ -116,6 +116,7 @@ allow-spec =
     at-requires-2
     same-length-2
     returns-3
+    (search needs)
     same-length-3
     returns-4
     add-put-text

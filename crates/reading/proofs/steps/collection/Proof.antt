@@ -32,6 +32,7 @@ pub collection-spec : {M : Type 1} → statement M
 collection-spec =
     tie.close
     (tie.spec
+    (search needs)
     returns
     add-w
     add-w-2

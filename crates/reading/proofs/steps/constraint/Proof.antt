@@ -70,6 +70,7 @@ constraint-spec =
     part-is-constraint-kind-end
     is-constraint-kind-requires
     returns
+    (search needs)
     returns-2
     sub-are-same
     part-are-same-start

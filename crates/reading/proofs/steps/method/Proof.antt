@@ -71,7 +71,7 @@ same-length-3 : tie.Need-same-length-3
 same-length-3 c = search needs
 
 returns-5 : tie.Need-returns-5
-returns-5 c = search (needs, method-new)
+returns-5 c = search (needs, method-new, c .before .before .before .before .before .before .before .before .before .before .before .before .before .before .before .before .before .before .before .before .before .before .before .pre)
 
 pub method-spec : {M : Type 1} → statement M
 method-spec =
@@ -83,6 +83,7 @@ method-spec =
     part-is-method-name-end
     is-method-name-requires
     returns
+    (search needs)
     returns-2
     sub-index
     part-index-start
@@ -92,6 +93,7 @@ method-spec =
     with-line-requires
     same-length
     returns-3
+    (search needs)
     same-length-2
     returns-4
     add-put-text

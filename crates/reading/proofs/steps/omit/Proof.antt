@@ -79,6 +79,7 @@ omit-spec =
     part-is-method-name-end
     is-method-name-requires
     returns
+    (search needs)
     returns-2
     sub-index
     part-index-start
@@ -88,6 +89,7 @@ omit-spec =
     with-line-requires
     same-length
     returns-3
+    (search needs)
     same-length-2
     returns-4
     add-put-text

@@ -43,6 +43,7 @@ pattern-spec =
     part-is-pattern-end
     is-pattern-requires
     returns
+    (search needs)
     returns-2
     put-pattern-requires
     with-pattern-requires

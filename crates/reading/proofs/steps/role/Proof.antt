@@ -73,6 +73,7 @@ role-spec =
     index-requires
     same-length
     returns-2
+    (search needs)
     same-length-2
     returns-3
     add-put-text

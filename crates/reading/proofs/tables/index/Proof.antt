@@ -3,7 +3,8 @@ use borrow.Author.Needs.{needs}
 use mathlib.Core.Path.{_≡_}
 use Prim.Native.Nat.{_+_, _-_}
 use lib.ListN.{drop}
-use Rattle.reading.specs.Tables.{indexOf, textsAt, region}
+use Rattle.text.specs.Texts.{indexOf}
+use Rattle.reading.specs.Tables.{textsAt, region}
 use Rattle.reading.proofs.Regions.{index-start, index-hit, index-miss, index-none}
 use Rattle.reading.proofs.tables.index.Statement.{statement}
 use Rattle.reading.proofs.tables.index.Tie as tie

@@ -1,0 +1,26 @@
+-- The plain form of the refusals of `budquarry_compare`: the rows of 01's table, each by itself, in 01's order.
+-- proofs/Exactly.antt shows that the call hands back exactly the first row that is given.
+use Prim.Native.Nat.{ℕ}
+use mathlib.Core.List.{List, [], _∷_}
+use mathlib.Core.Option.{Option}
+use Rattle.text.specs.Texts.{Text}
+use Rattle.listings.specs.Refusals.{readingOf}
+use Rattle.reading.specs.Outcomes.{isShort}
+use Rattle.reading.specs.Orders.{report, row, listingRow, lastRow}
+use Rattle.listings.specs.declared.answers.Report.{Report}
+use Rattle.comparing.specs.Outcomes.{isSmall}
+use Rattle.comparing.specs.declared.answers.Comparison.{Comparison}
+
+unfoldable pub compareRows : Text → Text → Text → List ℕ → List (Option Report)
+unfolding readingOf
+compareRows old new answer work =
+    row 1 (isShort work)  -- "work table below 4,096 numbers"
+    ∷ row 14 (isSmall answer)  -- "answer buffer below 1,024 bytes"
+    ∷ listingRow 1 (readingOf old)  -- 2 to 10: "all of the old listing's, its 2 included, before the new one's"
+    ∷ listingRow 2 (readingOf new)
+    ∷ lastRow
+    ∷ []
+
+-- what is handed back, but for the length
+abbrev pub reportIn : Comparison → Report
+reportIn c = report (c .number) (c .side) (c .line)

@@ -1,9 +1,0 @@
--- The names of the files that the program reads.
-use Prim.Native.Nat.{ℕ}
-use mathlib.Core.List.{_++_}
-use Rattle.io.specs.Digits.{digits}
-use Rattle.reading.specs.Texts.{Text, bytes}
-
--- `case` and the last three digits of k
-abbrev pub caseName : ℕ → Text
-caseName k = bytes "case" ++ digits 10 3 k

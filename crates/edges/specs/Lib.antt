@@ -1,0 +1,5 @@
+-- What the contracts here cite:
+--   Cases    the names of the cases' files
+--   Garbage  what the work table holds before a call, and the tests of it afterwards
+pub mod Cases
+pub mod Garbage

@@ -1,0 +1,125 @@
+-- The filler's number is the first without a mark, where the marks are those of both listings.
+use mathlib.Core.Path.{_≡_, refl, sym, ap, _∙_}
+use mathlib.Core.Bool.{Bool, true, false, not, _&&_, _||_, and-assoc}
+use mathlib.Core.List.{List, [], _∷_, _++_}
+use Prim.Native.Nat.{ℕ, zero, suc, _+_, _-_, _*_, _/_, _%_, _^_, _≤_, _<_}
+use native.Mathlib.Nat.{zero-div}
+use native.Mathlib.Decide.{decLt}
+use native.Mathlib.Omega.{arith}
+use lib.ListN.{length, take, drop, getD, replicate}
+use borrow.Author.Tests.{not-true, not-false}
+use borrow.Rule.Slice.PartMut.{putMid}
+use Rattle.text.specs.Texts.{Text, part}
+use Rattle.listings.specs.Listings.{listingOf, patternsOf}
+use Rattle.reading.specs.Outcomes.{zeroed}
+use Rattle.reading.specs.Holds.{Holds}
+use Rattle.reading.specs.declared.tables.Tally.{Tally}
+use Rattle.text.proofs.Truths.{never}
+use Rattle.reading.proofs.Accepted.{Proper, accepted-proper}
+use Rattle.trials.specs.Fillers.{numbered, firstNumber, occurs, absent, fills}
+use Rattle.fillers.specs.Marks.{MarkedToo, isMarked, withinAny}
+use Rattle.trials.proofs.Pigeons.{First, first-one}
+use Rattle.trials.proofs.Bounds.{filler-of-first, filler-of-small}
+use Rattle.fillers.proofs.MarkingLines.{Around, marksIn, around-held, around-both, put-around, put-marks, width}
+
+-- ---- no marks
+zeros : (k : ℕ) (l : List ℕ) (j : ℕ) → j < k → getD (replicate k 0 ++ l) j 0 ≡ 0
+zeros zero l j h = absurd (omega arith)
+zeros (suc k) l zero h = refl
+zeros (suc k) l (suc j) h = zeros k l j (omega arith)
+
+-- where all numbers are 0 nothing is marked
+zeroed-unmarked : (k : ℕ) (ws : List ℕ) → 2048 ≤ k → (i : ℕ) → i < 65536 → isMarked (zeroed k ws) i ≡ false
+unfolding zeroed isMarked
+zeroed-unmarked k ws h i l = let z : 0 / 2 ^ (i % 32) ≡ 0 = zero-div (2 ^ (i % 32)) in rw (zeros k (drop k ws) (i / 32) (omega arith), z)
+
+-- ---- the marks of two listings
+-- a text that is absent from both is absent from them together
+absent-append : (s : Text) (ts us : List Text) → absent s (ts ++ us) ≡ absent s ts && absent s us
+unfolding absent
+absent-append s [] us = refl
+absent-append s (t ∷ ts) us = ap (λ (b : Bool). not (occurs s t) && b) (absent-append s ts us) ∙ sym (and-assoc (not (occurs s t)) (absent s ts) (absent s us))
+
+-- n is inside one of them where it is inside one of the first or of the second
+within-append : (ts us : List Text) (n : ℕ) → withinAny us n || (withinAny ts n || false) ≡ not (fills (ts ++ us) n)
+unfolding withinAny fills
+within-append ts us n = rw (absent-append (numbered (113 ∷ []) n) ts us) (go (absent (numbered (113 ∷ []) n) ts) (absent (numbered (113 ∷ []) n) us))
+  where
+    go : (a b : Bool) → not b || (not a || false) ≡ not (a && b)
+    go true true = refl
+    go true false = refl
+    go false true = refl
+    go false false = refl
+
+-- ---- the first without a mark
+module _ (new old : Text) (tn to : Tally) (wn wo : List ℕ) (N : Holds new tn wn) (O : Holds old to wo) (ws : List ℕ)
+    (right : (i : ℕ) → i < 65536 → isMarked ws i ≡ not (fills (patternsOf (listingOf new) ++ patternsOf (listingOf old)) i)) (r : ℕ)
+    (below : (i : ℕ) → i < r → isMarked ws i ≡ true) (here : (r < 65536 → isMarked ws r ≡ false) × (r ≤ 65536)) where
+  -- one is found
+  found-small : r < 65536
+  found-small = go (decLt r 65536)
+    where
+      go : Dec (r < 65536) → r < 65536
+      go (yes h) = h
+      go (no h) =
+          let P = accepted-proper new (N .accepts) in
+          let Q = accepted-proper old (O .accepts) in
+          let s = filler-of-small (listingOf new) (listingOf old) P Q in
+          let F = filler-of-first (listingOf new) (listingOf old) P Q in
+          absurd (never _ (F .passes) (not-true _ (sym (right _ s) ∙ below _ (omega arith))))
+
+  -- it is the filler's
+  found-number : r ≡ firstNumber (fills (patternsOf (listingOf new) ++ patternsOf (listingOf old)))
+  found-number =
+      let h = found-small in
+      first-one (fills (patternsOf (listingOf new) ++ patternsOf (listingOf old))) r _ (filler-of-first (listingOf new) (listingOf old) (accepted-proper new (N .accepts)) (accepted-proper old (O .accepts)))
+      (not-false _ (sym (right r h) ∙ here .0 h)) (λ i l. not-true _ (sym (right i (omega arith)) ∙ below i l))
+
+-- ---- the table: w, then with z in the place of the marks, then with new's numbers marked, and then with old's too
+-- what marking the numbers of a listing leaves
+abbrev Lined : ℕ → Text → List ℕ → List ℕ → Type 0
+Lined n s before now =
+    MarkedToo (withinAny (patternsOf (listingOf s))) (marksIn n before) (marksIn n now)
+    × ((take (2 * n) now ≡ take (2 * n) before) × ((drop (4 * n) now ≡ drop (4 * n) before) × (length now ≡ length before)))
+
+module _ (n : ℕ) (w z : List ℕ) (room : 4 * n ≤ length w) (kept : length z ≡ length (part (2 * n) (4 * n) w)) where
+  -- new is held still
+  pub new-room : 4 * n ≤ length (putMid (2 * n) (4 * n - 2 * n) w z)
+  new-room = let e = put-around n w room z kept .size in omega arith
+
+  pub new-held : (s : Text) (t : Tally) → Holds s t (take n (drop n w)) → Holds s t (take n (drop n (putMid (2 * n) (4 * n - 2 * n) w z)))
+  new-held s t H = around-held n n w _ s t (omega arith) (put-around n w room z kept .tables) H
+
+  module _ (new : Text) (w′ : List ℕ) (L : Lined n new (putMid (2 * n) (4 * n - 2 * n) w z) w′) where
+    around-new : Around n w w′
+    around-new = around-both n w _ w′ (put-around n w room z kept) (record { size = L .1 .1 .1; tables = L .1 .0; rest = L .1 .1 .0 })
+
+    -- so is old
+    pub old-room : 4 * n ≤ length w′
+    old-room = let e = around-new .size in omega arith
+
+    pub old-held : (s : Text) (t : Tally) → Holds s t (take n w) → Holds s t (take n w′)
+    old-held s t H = around-held n 0 w w′ s t (omega arith) (around-new .tables) H
+
+    module _ (old : Text) (w″ : List ℕ) (K : Lined n old w′ w″) where
+      around-old : Around n w w″
+      around-old = around-both n w w′ w″ around-new (record { size = K .1 .1 .1; tables = K .1 .0; rest = K .1 .1 .0 })
+
+      -- marked are the numbers that will not do
+      both-marked : n ≡ 1024 → z ≡ zeroed (2 * n) (part (2 * n) (4 * n) w) → (i : ℕ) → i < 65536
+          → isMarked (part (2 * n) (4 * n) w″) i ≡ not (fills (patternsOf (listingOf new) ++ patternsOf (listingOf old)) i)
+      both-marked e f i l =
+          let none : isMarked (marksIn n (putMid (2 * n) (4 * n - 2 * n) w z)) i ≡ false =
+          rw (put-marks n w room z kept, f) (zeroed-unmarked (2 * n) (part (2 * n) (4 * n) w) (omega arith) i l) in
+          rw (width n, K .0 .marks i l, L .0 .marks i l, none) (within-append (patternsOf (listingOf new)) (patternsOf (listingOf old)) i)
+
+      -- so the first without a mark is the filler's number, and the table is as before around the marks
+      pub filler-found : n ≡ 1024 → z ≡ zeroed (2 * n) (part (2 * n) (4 * n) w) → (tn to : Tally) → Holds new tn (take n (drop n w)) → Holds old to (take n w)
+          → (r : ℕ) → ((i : ℕ) → i < r → isMarked (part (2 * n) (4 * n) w″) i ≡ true) → (r < 65536 → isMarked (part (2 * n) (4 * n) w″) r ≡ false) × (r ≤ 65536)
+          → (r ≡ firstNumber (fills (patternsOf (listingOf new) ++ patternsOf (listingOf old))))
+          × ((r < 65536) × ((take (2 * n) w″ ≡ take (2 * n) w) × ((drop (4 * n) w″ ≡ drop (4 * n) w) × (length w″ ≡ length w))))
+      filler-found e f tn to N O r below here =
+          let right = both-marked e f in (
+            found-number new old tn to _ _ N O (part (2 * n) (4 * n) w″) right r below here,
+            (found-small new old tn to _ _ N O (part (2 * n) (4 * n) w″) right r below here, (around-old .tables, (around-old .rest, around-old .size))),
+          )

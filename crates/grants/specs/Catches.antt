@@ -1,0 +1,43 @@
+-- What the two sides come to on a path: the first trial method and the first caller that new grants and old does not. For the proofs alone.
+use Prim.Native.Nat.{ℕ, zero, suc, _+_, _-_}
+use mathlib.Core.Bool.{cond}
+use mathlib.Core.List.{List, []}
+use mathlib.Core.Option.{Option, none, some}
+use lib.ListN.{getD}
+use lib.Dec.{eqb}
+use lib.Bits.{bitAnd}
+use lib.Count.{trailingZeros}
+use Rattle.text.specs.Texts.{Text}
+use Rattle.listings.specs.Listings.{Listing}
+use Rattle.deciding.specs.Requests.{Request}
+use Rattle.trials.specs.Trials.{trialMethods}
+use Rattle.trials.specs.Loops.{firstSome, shownAt}
+use Rattle.grants.specs.Sides.{everyone, callerAt, rowIn}
+use Rattle.grants.specs.declared.judging.Caught.{Caught}
+use Rattle.grants.specs.declared.judging.Caught.the-variants as C
+
+-- the request to show for a path
+unfoldable pub shownOn : Listing → Listing → Text → Option Request
+unfolding firstSome shownAt trialMethods
+shownOn new old p = firstSome (λ (m : Text). shownAt new old p m) (trialMethods new old)
+
+-- the callers whom row rn grants and row ro does not, for trial method i
+abbrev pub freshIn : List ℕ → List ℕ → List ℕ → ℕ → ℕ
+freshIn rn ro pairs i = bitAnd (getD rn (getD pairs i 0) 0) (everyone - getD ro (getD pairs (64 + i) 0) 0)
+
+-- the first trial method with such a caller, from i on, and the first such caller; k methods are left
+unfoldable pub caughtFrom : List ℕ → List ℕ → List ℕ → ℕ → ℕ → Caught
+unfolding trailingZeros
+caughtFrom rn ro pairs zero i = C.Nothing
+caughtFrom rn ro pairs (suc k) i =
+    cond (eqb (freshIn rn ro pairs i) 0) (caughtFrom rn ro pairs k (i + 1)) (C.At i (trailingZeros 64 (freshIn rn ro pairs i)))
+
+-- for the places a of new and b of old
+unfoldable pub caughtIn : List ℕ → ℕ → List ℕ → ℕ → List ℕ → ℕ → ℕ → ℕ → Caught
+unfolding caughtFrom rowIn
+caughtIn sn n so o pairs count a b = caughtFrom (rowIn sn n a) (rowIn so o b) pairs count 0
+
+-- the request that it stands for, on a path
+abbrev pub caughtOn : Listing → Listing → Text → Caught → Option Request
+caughtOn new old p C.Nothing = none
+caughtOn new old p (C.At m c) = some (record { path = p; method = getD (trialMethods new old) m []; caller = callerAt (new .roles) c })

@@ -1,0 +1,20 @@
+-- The theorems about listings. For the customer:
+--   Exactly     a refusal exactly when its rule is broken there and none before it; accepted exactly when none is
+-- What it leans on:
+--   Lineups     the order of the rules, and the first that is broken
+--   Downward    reading line by line
+-- For the crates above:
+--   Plainly     the kinds of pattern in plain words
+--   Headers     the first line
+--   Sound       the records of an accepted listing pass every rule
+-- The code, module by module:
+--   Namings     names: names and patterns
+--   Followings  records: what may follow what
+pub mod Namings
+pub mod Followings
+pub mod Plainly
+pub mod Headers
+pub mod Sound
+pub mod Lineups
+pub mod Downward
+pub mod Exactly

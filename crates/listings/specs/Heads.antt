@@ -1,0 +1,59 @@
+-- How the code takes a line's head and a record's place: for the proofs alone, which show that it is what Records says.
+use Prim.Native.Nat.{ℕ}
+use mathlib.Core.Bool.{Bool, true, false, cond}
+use Rattle.text.specs.Texts.{Text, bytes, startsWith}
+use Rattle.listings.specs.declared.records.Kind.{Kind}
+use Rattle.listings.specs.declared.records.Kind.the-variants.{Role, Constraint, Allow, Collection, Pattern, Method, Omit, End}
+use Rattle.listings.specs.declared.records.Named.the-variants.{Known, Unknown}
+use Rattle.listings.specs.declared.records.Headed.{Headed}
+use Rattle.listings.specs.declared.records.Place.{Place}
+use Rattle.listings.specs.declared.records.Place.the-variants.{AfterFirst, AfterRole, AfterOpen, AfterAuth, AfterAllow, AfterCollection, AfterPattern, AfterMethod, AfterOmit, AfterEnd}
+
+-- ---- how a line begins: with a record's name, and a tab behind it or the line's end
+abbrev pub headed : Kind → ℕ → Headed
+headed k n = record { named = Known k; size = n }
+
+abbrev pub unheaded : Headed
+unheaded = record { named = Unknown; size = 0 }
+
+unfoldable pub headOfPart : Text → Headed
+unfolding startsWith
+headOfPart t =
+    cond (startsWith (bytes "role\t") t) (headed Role 5)
+    (cond (startsWith (bytes "constraint\t") t) (headed Constraint 11)
+    (cond (startsWith (bytes "collection\n") t) (headed Collection 10)
+    (cond (startsWith (bytes "end\n") t) (headed End 3)
+    unheaded)))
+
+unfoldable pub headOf : Text → Headed
+unfolding startsWith headOfPart
+headOf t =
+    cond (startsWith (bytes "method\t") t) (headed Method 7)
+    (cond (startsWith (bytes "omit\t") t) (headed Omit 5)
+    (cond (startsWith (bytes "pattern\t") t) (headed Pattern 8)
+    (cond (startsWith (bytes "allow\t") t) (headed Allow 6)
+    (headOfPart t))))
+
+-- the places that a record of that kind may follow: a binary digit for each, by its number
+abbrev pub placesOf : Kind → ℕ
+placesOf Role = 3
+placesOf Constraint = 451
+placesOf Allow = 24
+placesOf Collection = 476
+placesOf Pattern = 96
+placesOf Method = 192
+placesOf Omit = 320
+placesOf End = 451
+
+-- the first `method` line of a collection takes all others out
+abbrev pub isFirstMethod : Place → Bool
+isFirstMethod AfterFirst = false
+isFirstMethod AfterRole = false
+isFirstMethod AfterOpen = false
+isFirstMethod AfterAuth = false
+isFirstMethod AfterAllow = false
+isFirstMethod AfterCollection = false
+isFirstMethod AfterPattern = true
+isFirstMethod AfterMethod = false
+isFirstMethod AfterOmit = false
+isFirstMethod AfterEnd = false

@@ -1,0 +1,18 @@
+-- The meaning of a listing, in document 01's words, on the texts of `text`. Read in this order:
+--   Records   the records, and which may follow which
+--   Patterns  the kinds of pattern
+--   Names     what a name or a pattern has to be
+--   Limits    the most that a listing may hold
+--   Refusals  the rules that a listing can break, their numbers and their order: what reading answers
+--   Listings  what an accepted listing is: its roles, methods, constraints and collections
+--   Rules     the plain form of the refusals, for the theorem that ties it to Refusals
+-- The last is for the proofs alone, and no public statement rests on a reader's believing it:
+--   Heads     how the code takes a line's head and a record's place
+pub mod Records
+pub mod Patterns
+pub mod Names
+pub mod Limits
+pub mod Refusals
+pub mod Listings
+pub mod Rules
+pub mod Heads

@@ -1,0 +1,28 @@
+// The most that a listing may hold.
+ghost use mathlib.Core.Path.{_≡_};
+ghost use Rattle.listings.specs.Limits.{mostOf};
+
+// What has a most-number.
+pub enum Counted {
+    Bytes,
+    Constraints,
+    Collections,
+    Patterns,
+    MethodLines,
+    Roles,
+    Methods,
+}
+
+pub fn most(c: Counted) -> usize
+    ensures { λ r. ⌜ r ≡ mostOf c ⌝ }
+{
+    match c {
+        Counted::Bytes => 24576,
+        Counted::Constraints => 64,
+        Counted::Collections => 128,
+        Counted::Patterns => 128,
+        Counted::MethodLines => 512,
+        Counted::Roles => 32,
+        Counted::Methods => 31,
+    }
+}

@@ -1,5 +1,0 @@
--- What the contracts of this program cite:
---   Cases    the names of the files
---   Garbage  what the work table holds before a call, and the tests of it afterwards
-pub mod Cases
-pub mod Garbage

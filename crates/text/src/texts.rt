@@ -1,0 +1,170 @@
+// Texts compared and scanned.
+ghost use mathlib.Core.Path.{_≡_};
+ghost use mathlib.Core.Bool.{true};
+ghost use Prim.Native.Nat.{_+_, _≤_};
+ghost use lib.ListN.{length, drop};
+ghost use Rattle.text.specs.Texts.{same, has, all, startsWith, endsWith, part, bytes};
+ghost use Rattle.text.specs.Bytes.{isText, isToken, classTable};
+ghost use Rattle.text.specs.Lines.{toFieldEnd};
+use crate::bytes;
+
+// Whether t and u are the same bytes.
+pub fn are_same(t: &[u8], u: &[u8]) -> bool
+    ensures { λ r. ⌜ r ≡ same (now (t .entry)) (now (u .entry)) ⌝ }
+{
+    if t.len() != u.len() {
+        return false;
+    }
+    let mut i = 0;
+    while i < t.len() {
+        if t[i] != u[i] {
+            return false;
+        }
+        i += 1;
+    }
+    true
+}
+
+// Whether t has the byte b.
+pub fn has_byte(b: u8, t: &[u8]) -> bool
+    ensures { λ r. ⌜ r ≡ has b (now (t .entry)) ⌝ }
+{
+    let mut i = 0;
+    while i < t.len() {
+        if t[i] == b {
+            return true;
+        }
+        i += 1;
+    }
+    false
+}
+
+// Whether t starts with the prefix p.
+pub fn starts_with(p: &[u8], t: &[u8]) -> bool
+    ensures { λ r. ⌜ r ≡ startsWith (now (p .entry)) (now (t .entry)) ⌝ }
+{
+    if t.len() < p.len() {
+        return false;
+    }
+    let n = p.len();
+    are_same(p, &t[..n])
+}
+
+// Whether t ends with e.
+pub fn ends_with(e: &[u8], t: &[u8]) -> bool
+    ensures { λ r. ⌜ r ≡ endsWith (now (e .entry)) (now (t .entry)) ⌝ }
+{
+    if t.len() < e.len() {
+        return false;
+    }
+    let from = t.len() - e.len();
+    are_same(&t[from..], e)
+}
+
+// Whether every byte of t is a text byte.
+pub fn all_text(table: &[u8; 256], t: &[u8]) -> bool
+    requires { ⌜ now table ≡ classTable ⌝ }
+    ensures { λ r. ⌜ r ≡ all isText (now (t .entry)) ⌝ }
+{
+    let mut i = 0;
+    while i < t.len() {
+        if !bytes::is_text(table, t[i]) {
+            return false;
+        }
+        i += 1;
+    }
+    true
+}
+
+// Whether every byte of t is a token byte.
+pub fn all_token(table: &[u8; 256], t: &[u8]) -> bool
+    requires { ⌜ now table ≡ classTable ⌝ }
+    ensures { λ r. ⌜ r ≡ all isToken (now (t .entry)) ⌝ }
+{
+    let mut i = 0;
+    while i < t.len() {
+        if !bytes::is_token(table, t[i]) {
+            return false;
+        }
+        i += 1;
+    }
+    true
+}
+
+// Whether the four bytes of t are all text bytes.
+pub fn four_text(table: &[u8; 256], t: &[u8]) -> bool
+    requires { ⌜ (now table ≡ classTable) × (length (now t) ≡ 4) ⌝ }
+    ensures { λ r. ⌜ r ≡ all isText (now (t .entry)) ⌝ }
+{
+    if !bytes::is_text(table, t[0]) {
+        return false;
+    }
+    if !bytes::is_text(table, t[1]) {
+        return false;
+    }
+    if !bytes::is_text(table, t[2]) {
+        return false;
+    }
+    bytes::is_text(table, t[3])
+}
+
+// A place behind some text bytes of s that stand from `at` on, taken four at a time.
+pub fn past_text(table: &[u8; 256], s: &[u8], at: usize) -> usize
+    requires { ⌜ now table ≡ classTable ⌝ }
+    ensures begun { λ r. ⌜ at ≤ r ⌝ }
+    ensures ahead { λ r. ⌜ at + toFieldEnd (drop at (now (s .entry))) ≡ r + toFieldEnd (drop r (now (s .entry))) ⌝ }
+    ensures clean { λ r. ⌜ true ≡ all isText (part at r (now (s .entry))) ⌝ }
+{
+    let mut i = at;
+    if s.len() < 4 {
+        return i;
+    }
+    let last = s.len() - 4;
+    while i <= last {
+        let next = i + 4;
+        if !four_text(table, &s[i..next]) {
+            return i;
+        }
+        i = next;
+    }
+    i
+}
+
+// A field's end: the next tab or byte 10, or the end of the text; and whether its bytes are all text bytes.
+pub struct Scanned {
+    pub end: usize,
+    pub clean: bool,
+}
+
+// The field of s that begins at `at`.
+pub fn scan(table: &[u8; 256], s: &[u8], at: usize) -> Scanned
+    requires { ⌜ now table ≡ classTable ⌝ }
+    ensures end { λ r. ⌜ r .end ≡ at + toFieldEnd (drop at (now (s .entry))) ⌝ }
+    ensures clean { λ r. ⌜ r .clean ≡ all isText (part at (r .end) (now (s .entry))) ⌝ }
+{
+    let mut clean = true;
+    let mut i = past_text(table, s, at);
+    while i < s.len() {
+        let b = s[i];
+        if !bytes::is_text(table, b) {
+            if b == 9 {
+                return Scanned {
+                    end: i,
+                    clean: clean,
+                };
+            }
+            if b == 10 {
+                return Scanned {
+                    end: i,
+                    clean: clean,
+                };
+            }
+            clean = false;
+        }
+        i += 1;
+    }
+    Scanned {
+        end: i,
+        clean: clean,
+    }
+}

@@ -1,0 +1,94 @@
+-- The trials: the requests that stand for all requests.
+use mathlib.Core.Bool.{cond}
+use mathlib.Core.List.{List, [], _∷_, _++_, map, flatMap}
+use Rattle.text.specs.Texts.{Text, slash, dot, member}
+use Rattle.listings.specs.Patterns.{PatternKind, exact, prefix, extension, default, refused, kindOf}
+use Rattle.listings.specs.Listings.{Listing, patternsOf}
+use Rattle.deciding.specs.Requests.{Caller, nobody, holder, Request}
+use Rattle.trials.specs.Fillers.{fillerOf, fillerMethodOf}
+
+-- ---- "Trial paths, taking the `pattern` lines of the new listing and then the old in order"
+-- p`/`filler
+abbrev pub below : Text → Text → Text
+below p filler = p ++ slash ∷ filler
+
+-- p`/`filler`.`e
+abbrev pub dotted : Text → Text → Text → Text
+dotted p filler e = p ++ slash ∷ (filler ++ dot ∷ e)
+
+-- the E of an extension pattern
+abbrev pub extensionIn : PatternKind → List Text
+extensionIn (exact q) = []
+extensionIn (prefix p) = []
+extensionIn (extension e) = e ∷ []
+extensionIn default = []
+extensionIn refused = []
+
+-- "each extension pattern", in order
+unfoldable pub extensions : List Text → List Text
+unfolding kindOf
+extensions [] = []
+extensions (t ∷ ts) = extensionIn (kindOf t) ++ extensions ts
+
+-- "exact, the text itself (empty: `/`); prefix, P`/`filler, then P`/`filler`.`E for each extension pattern ..;
+-- extension, `/`filler`.`E; default, `/`filler": es are the extensions, and the empty pattern is of the kind exact `/`
+abbrev pub pathsOfKind : Text → List Text → PatternKind → List Text
+pathsOfKind filler es (exact q) = q ∷ []
+pathsOfKind filler es (prefix p) = below p filler ∷ map (dotted p filler) es
+pathsOfKind filler es (extension e) = dotted [] filler e ∷ []
+pathsOfKind filler es default = below [] filler ∷ []
+pathsOfKind filler es refused = []
+
+-- for one pattern text after the other; "Last of all, `/`filler."
+unfoldable pub pathsFrom : Text → List Text → List Text → List Text
+unfolding kindOf
+pathsFrom filler es [] = below [] filler ∷ []
+pathsFrom filler es (t ∷ ts) = pathsOfKind filler es (kindOf t) ++ pathsFrom filler es ts
+
+-- ts are the pattern texts of both listings
+unfoldable pub pathsFor : Text → List Text → List Text
+unfolding pathsFrom extensions
+pathsFor filler ts = pathsFrom filler (extensions ts) ts
+
+unfoldable pub trialPaths : Listing → Listing → List Text
+unfolding pathsFor fillerOf patternsOf
+trialPaths new old = pathsFor (fillerOf new old) (patternsOf new ++ patternsOf old)
+
+-- ---- "Trial methods: those of new by first appearance, then further ones of old, then the filler method."
+-- those of the second list that are none of the first
+unfoldable pub further : List Text → List Text → List Text
+unfolding member
+further us [] = []
+further us (t ∷ ts) = cond (member t us) (further us ts) (t ∷ further us ts)
+
+-- those of new, then further ones of old; a listing has each of its methods and roles once, by first appearance
+unfoldable pub joined : List Text → List Text → List Text
+unfolding further
+joined new old = new ++ further new old
+
+unfoldable pub trialMethods : Listing → Listing → List Text
+unfolding joined fillerMethodOf
+trialMethods new old = joined (new .methods) (old .methods) ++ fillerMethodOf new old ∷ []
+
+-- ---- "Trial callers: not logged in; then logged in with one role, over names by first appearance in new .., then further ones of old."
+abbrev pub one : Text → Caller
+one n = holder (n ∷ [])
+
+unfoldable pub trialNames : Listing → Listing → List Text
+unfolding joined
+trialNames new old = joined (new .roles) (old .roles)
+
+unfoldable pub trialCallers : Listing → Listing → List Caller
+unfolding trialNames
+trialCallers new old = nobody ∷ map one (trialNames new old)
+
+-- ---- "Paths vary slowest, callers fastest."
+unfoldable pub trials : Listing → Listing → List Request
+unfolding flatMap trialPaths trialMethods trialCallers
+trials new old =
+    flatMap (λ (p : Text).
+    flatMap (λ (m : Text).
+    map (λ (c : Caller). record { path = p; method = m; caller = c })
+    (trialCallers new old))
+    (trialMethods new old))
+    (trialPaths new old)
