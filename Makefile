@@ -13,7 +13,7 @@ SEED ?= $(shell date +%s)
 SOAK ?= 3000000
 PREFIX ?= /usr/local
 VERSION = $(shell sed -n 's/.*BUDQUARRY_VERSION "\(.*\)"/\1/p' include/budquarry.h)
-CRATES = text listings reading deciding trials fillers grants walks comparing library
+CRATES = text worktable listings reading deciding trials fillers grants walks comparing library
 COMMAND = command/budquarry.c command/words.c
 
 all: build/budquarry build/agree build/stack build/calls
@@ -92,16 +92,19 @@ gateway: build/gateway
 check-gateway: build/gateway $(CHECKED) build/gateway_client build/budquarry
 	tests/gateway build/gateway $(CHECKED)
 
-check: build/budquarry build/agree build/typed build/second_agree build/properties build/stack build/edges build/decide_edges
-	tests/command
-	tests/install
+# the second implementation by itself: with two jobs, while the archive is proved
+check-second: build/second_agree build/properties build/edges build/decide_edges
 	tests/stored
-	$(X86) run build/typed
-	$(X86) run build/agree 1 100000
-	$(X86) run build/agree $(SEED) 20000
 	$(X86) run build/second_agree 0 1 large >build/second_agree.out || { cat build/second_agree.out; exit 1; }
 	$(X86) run build/properties 1 20000
 	$(X86) run build/properties $(SEED) 4000
+
+check: check-second build/budquarry build/agree build/typed build/stack
+	tests/command
+	tests/install
+	$(X86) run build/typed
+	$(X86) run build/agree 1 100000
+	$(X86) run build/agree $(SEED) 20000
 	$(X86) run build/stack
 	if $(X86) need curl curl && $(X86) need ab apache2-utils && $(X86) library microhttpd microhttpd.h libmicrohttpd-dev; \
 		then $(MAKE) --no-print-directory check-gateway; else echo "gateway: not tried, for want of the packages above"; fi
@@ -141,4 +144,4 @@ uninstall:
 clean:
 	rm -rf build
 
-.PHONY: all check programs sharp gateway check-gateway soak bench growth install uninstall clean
+.PHONY: all check check-second programs sharp gateway check-gateway soak bench growth install uninstall clean

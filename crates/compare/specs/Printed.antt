@@ -5,7 +5,7 @@ use mathlib.Core.List.{List, [], _∷_}
 use lib.ListN.{length}
 use Rattle.text.specs.Texts.{Text, bytes}
 use Rattle.listings.specs.Refusals.{readingOf}
-use Rattle.reading.specs.Outcomes.{workAfter}
+use Rattle.worktable.specs.Work.{workAfter}
 use Rattle.trials.specs.Answers.{lineOf}
 use Rattle.trials.specs.Fillers.{digits}
 use Rattle.comparing.specs.Outcomes.{Compared, refusedFor, answered, comparedOld}

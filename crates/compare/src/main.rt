@@ -1,15 +1,18 @@
 // Compares the listings old.txt and new.txt of the folder that it is run in, and prints the verdict's lines or the refusal's.
+use comparing::comparer::ANSWER;
 use libc::STDERR_FILENO;
 use libc::STDOUT_FILENO;
+use listings::limits::BYTES;
+use worktable::WORK;
 
 mod files; // a file's bytes
 mod printing; // the text that is printed
 
 fn main() {
-    let mut old = [0u8; 24577];
-    let mut new = [0u8; 24577];
-    let mut text = [0u8; 1024];
-    let mut work = [0u32; 4096];
+    let mut old = [0u8; BYTES + 1];
+    let mut new = [0u8; BYTES + 1];
+    let mut text = [0u8; ANSWER];
+    let mut work = [0u32; WORK];
     let n = files::load(b"old.txt", &mut old);
     let m = files::load(b"new.txt", &mut new);
     let k = printing::compare_into(&old[..n], &new[..m], &mut text, &mut work);

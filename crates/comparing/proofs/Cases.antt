@@ -22,7 +22,7 @@ newText =
     ++ bytes "constraint\tauth\nallow\tassessor\ncollection\npattern\t/clock/offset\nmethod\tGET\n"
     ++ bytes "end\n"
 
--- what the compare program prints
+-- what a comparison comes to where 1 and 14 are not given, and so what the compare program prints
 pub worked-request-12 : comparedOld oldText newText (readingOf oldText) ≡ answered (bytes "verdict\twider\npath\t/clock/offset\nmethod\tQ0\ncaller\tnone\n")
 unfolding oldText newText readingOf isText isToken namesRole isMethodName isRoleName listingOf verdict answerOf
 worked-request-12 = refl

@@ -1,5 +1,6 @@
 -- The functions of the whole call: what each hands to the next is what the outcome speaks of.
 use mathlib.Core.Path.{_≡_, refl, sym, ap, subst, _∙_}
+use mathlib.Core.Bool.{Bool, true, false}
 use mathlib.Core.List.{List, [], _∷_, _++_}
 use Prim.Native.Nat.{ℕ, _+_, _-_, _*_, _≤_, _<_}
 use native.Mathlib.Omega.{arith}
@@ -9,8 +10,10 @@ use borrow.Rule.Slice.PartMut.{putMid, postOf, post-is, same-len-mid}
 use borrow.Author.Tests.{lt-ltb, le-ltb}
 use Rattle.text.specs.Texts.{Text}
 use Rattle.listings.specs.Listings.{Listing, listingOf}
-use Rattle.reading.specs.Outcomes.{zeroed, workAfter}
+use Rattle.worktable.specs.Work.{zeroed, workAfter, isShort}
+use Rattle.worktable.proofs.Lengths.{too-short, long-enough}
 use Rattle.listings.specs.Refusals.{numberOf, readingOf}
+use Rattle.reading.specs.Room.{listingRoom}
 use Rattle.reading.specs.Holds.{Holds, LoadOutcome}
 use Rattle.listings.specs.declared.answers.Fault.{Fault}
 use Rattle.reading.specs.declared.reader.Loaded.{Loaded}
@@ -104,7 +107,7 @@ module _ (n : ℕ) (w : List ℕ) (room : 4 * n ≤ length w) where
   pub first-lent : n ≡ length (take n w)
   first-lent = sym (length-take-le n w (omega arith))
 
-  pub first-room : n ≡ 1024 → 720 ≤ length (take n w)
+  pub first-room : n ≡ 1024 → listingRoom ≤ length (take n w)
   first-room e = let l = length-take-le n w (omega arith) in omega arith
 
 -- a is read into the first n numbers of w, then b into the next n
@@ -126,7 +129,7 @@ module _ (n : ℕ) (w a b : List ℕ) (room : 4 * n ≤ length w) (long-a : leng
       let e : 2 * n - n ≡ n = omega arith in
       rw e (length-take-le n (drop n one) (omega arith))
 
-  pub second-room : n ≡ 1024 → 720 ≤ length (take (2 * n - n) (drop n one))
+  pub second-room : n ≡ 1024 → listingRoom ≤ length (take (2 * n - n) (drop n one))
   second-room e = let l = part-length in omega arith
 
   module _ (long-b : length b ≡ length (take (2 * n - n) (drop n one))) where
@@ -181,11 +184,16 @@ module _ (n : ℕ) (w a b : List ℕ) (room : 4 * n ≤ length w) (long-a : leng
 -- ---- the whole call
 module _ (old new answer : Text) (w : List ℕ) (x : Comparison) where
   -- the work table is too short
-  pub compare-short : length w < 4096 → x ≡ record { number = 1; side = 0; line = 0; length = 0 } → CompareOutcome old new answer w x answer w
+  pub compare-short : (b : Bool) → b ≡ isShort w → b ≡ true → x ≡ record { number = 1; side = 0; line = 0; length = 0 } → CompareOutcome old new answer w x answer w
   unfolding comparisonOf answerAfter compared workAfter
-  compare-short h e = record { handed = rw (lt-ltb _ _ h) e; answered = rw (lt-ltb _ _ h); worked = rw (lt-ltb _ _ h) }
+  compare-short b is y e =
+      let h = too-short w b is y in
+      record { handed = rw (lt-ltb _ _ h) e; answered = rw (lt-ltb _ _ h); worked = rw (lt-ltb _ _ h) }
 
-  module _ (long : 4096 ≤ length w) (w′ : List ℕ) where
+  module _ (b : Bool) (is : b ≡ isShort w) (n : b ≡ false) (w′ : List ℕ) where
+    long : 4096 ≤ length w
+    long = long-enough w b is n
+
     -- the answer buffer is
     pub compare-small : length answer < 1024 → x ≡ record { number = 14; side = 0; line = 0; length = 0 } → w′ ≡ zeroed 4096 w → CompareOutcome old new answer w x answer w′
     unfolding comparisonOf answerAfter compared workAfter

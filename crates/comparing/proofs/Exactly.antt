@@ -8,14 +8,14 @@ use Prim.Native.Nat.{ℕ}
 use native.Mathlib.Omega.{arith}
 use Rattle.text.specs.Texts.{Text}
 use Rattle.listings.specs.Refusals.{Reading, accepted, refusal, numberOf, readingOf}
-use Rattle.reading.specs.Outcomes.{isShort}
-use Rattle.reading.specs.Orders.{report, row, listingRow, lastRow, FirstGiven, FirstBroken}
+use Rattle.worktable.specs.Work.{isShort}
+use Rattle.reading.specs.Rows.{report, row, listingRow, lastRow, FirstGiven, FirstBroken}
 use Rattle.listings.specs.declared.answers.Report.{Report}
 use Rattle.listings.specs.declared.answers.Fault.{Fault}
 use Rattle.listings.proofs.Exactly.{refused-exactly}
 use Rattle.reading.proofs.Firsts.{firstOf, first-exactly, one-refusal, side-tells}
 use Rattle.comparing.specs.Outcomes.{refusedFor, isSmall, comparedNew, comparedOld, compared, comparisonFor, comparisonOf}
-use Rattle.comparing.specs.Rules.{compareRows, reportIn}
+use Rattle.comparing.specs.Rows.{compareRows, reportIn}
 
 -- buffer and table are large enough
 abbrev pub Roomy : Text → List ℕ → Type 0

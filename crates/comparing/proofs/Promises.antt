@@ -11,7 +11,7 @@ use borrow.Author.Tests.{le-ltb}
 use Rattle.text.specs.Texts.{Text, bytes}
 use Rattle.listings.specs.Refusals.{accepted, readingOf}
 use Rattle.listings.specs.Listings.{listingOf}
-use Rattle.reading.specs.Outcomes.{workSize}
+use Rattle.worktable.specs.Work.{workSize}
 use Rattle.deciding.specs.Requests.{Request}
 use Rattle.trials.specs.Verdicts.{verdict, Shown, GrantsNoMore}
 use Rattle.trials.specs.Answers.{lineOf, answerOf}

@@ -8,7 +8,7 @@ use lib.Dec.{ltb}
 use Rattle.text.specs.Texts.{Text}
 use Rattle.listings.specs.Refusals.{Reading, accepted, refusal, numberOf, shortTable, smallAnswer, readingOf}
 use Rattle.listings.specs.Listings.{listingOf}
-use Rattle.reading.specs.Outcomes.{isShort, workAfter}
+use Rattle.worktable.specs.Work.{isShort, workAfter}
 use Rattle.trials.specs.Verdicts.{verdict}
 use Rattle.trials.specs.Answers.{answerOf}
 use Rattle.comparing.specs.declared.answers.Comparison.{Comparison}

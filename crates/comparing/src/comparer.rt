@@ -5,7 +5,7 @@ ghost use mathlib.Core.Option.{none, some};
 ghost use Prim.Native.Nat.{_+_, _*_, _≤_, _<_};
 ghost use lib.ListN.{length, take, drop, getD};
 ghost use Rattle.listings.specs.Listings.{listingOf};
-ghost use Rattle.reading.specs.Outcomes.{zeroed};
+ghost use Rattle.worktable.specs.Work.{zeroed};
 ghost use Rattle.listings.specs.Refusals.{readingOf};
 ghost use Rattle.reading.specs.Holds.{Holds, LoadOutcome};
 ghost use Rattle.trials.specs.Answers.{lineOf, callerFields, answerOf};
@@ -90,7 +90,7 @@ pub fn answer_wider(
     answer_of(put_caller(new, wn, tn, answer, f, c))
 }
 
-// The answer that shows none.
+// The answer `no wider`.
 pub fn answer_none(answer: &mut [u8]) -> Comparison
     requires { ⌜ 1024 ≤ length (now answer) ⌝ }
     ensures handed { λ r. ⌜ r ≡ comparisonFor (answered (answerOf none)) ⌝ }
@@ -99,7 +99,7 @@ pub fn answer_none(answer: &mut [u8]) -> Comparison
     answer_of(writing::put(answer, 0, b"verdict\tno wider\n"))
 }
 
-// The same with the number of a trial method, of which the filler method is the last.
+// The answer that shows a request by the number of its trial method; the last is the filler method.
 pub fn answer_request(
     new: &[u8],
     wn: &[u32],
@@ -282,10 +282,10 @@ pub fn compare_numbered(
 {
     let mut filler = [0; 8];
     let mut method = [0; 8];
-    let f = writing::put_numbered(&mut filler, 113, number);
+    let f = writing::put_numbered(&mut filler, b'q', number);
     let m = writing::put_numbered(
         &mut method,
-        81,
+        b'Q',
         finding::method_number(new, wn, tn, old, wo, to),
     );
     compare_filled(new, wn, tn, old, wo, to, &filler[..f], &method[..m], answer)
@@ -371,9 +371,15 @@ pub fn compare_with(
     let ln = reader::load(new, &mut w[n..e]);
     let c = compare_loaded(lo, ln, old, new, answer, w, n);
     let whole = 4 * n;
-    reader::zero_first(w, whole);
+    worktable::zero_first(w, whole);
     c
 }
+
+// The least answer buffer, in bytes.
+pub const ANSWER: usize = 1024;
+
+// A quarter of the work table's first numbers: one for each listing, two for the marks.
+const SHARE: usize = 1024;
 
 // Compares a new listing with an old one: the answer is the verdict's text, in the first `length` bytes of the answer buffer.
 #[no_mangle]
@@ -385,12 +391,12 @@ pub extern "C" fn budquarry_compare(
 ) -> Comparison
     ensures { λ r. ⌜ CompareOutcome (now (old .entry)) (now (new .entry)) (now (answer .entry)) (now (work .entry)) r (now (answer .exit)) (now (work .exit)) ⌝ }
 {
-    if work.len() < reader::WORK {
+    if worktable::is_short(work) {
         return answers::refuse(SHORT_TABLE, 0, 0);
     }
-    if answer.len() < 1024 {
-        reader::zero_first(work, reader::WORK);
+    if answer.len() < ANSWER {
+        worktable::zero_first(work, worktable::WORK);
         return answers::refuse(SMALL_ANSWER, 0, 0);
     }
-    compare_with(old, new, answer, work, 1024)
+    compare_with(old, new, answer, work, SHARE)
 }

@@ -13,7 +13,8 @@ use Rattle.text.specs.Texts.{Text, indexOf}
 use Rattle.listings.specs.Names.{isMethodName}
 use Rattle.listings.specs.Refusals.{numberOf, readingOf}
 use Rattle.listings.specs.Listings.{Listing, listingOf, patternsOf}
-use Rattle.reading.specs.Outcomes.{zeroed, workAfter}
+use Rattle.worktable.specs.Work.{zeroed, workAfter, isShort}
+use Rattle.worktable.proofs.Lengths.{too-short, long-enough}
 use Rattle.reading.specs.Holds.{Holds, LoadOutcome}
 use Rattle.listings.specs.declared.answers.Fault.{Fault}
 use Rattle.reading.specs.declared.reader.Loaded.{Loaded}
@@ -154,12 +155,16 @@ module _ (n : ℕ) (w a : List ℕ) (within : n ≤ length w) (kept : length a �
 -- ---- the whole call
 module _ (s path method names : Text) (login : ℕ) (w : List ℕ) (d : Decision) where
   -- the work table is too short
-  pub decide-short : length w < 4096 → d ≡ refused 1 0 0 → DecideOutcome (asked s path method login names) w d w
+  pub decide-short : (b : Bool) → b ≡ isShort w → b ≡ true → d ≡ refused 1 0 0 → DecideOutcome (asked s path method login names) w d w
   unfolding decisionOf workAfter
-  decide-short h e = record { decision = rw (lt-ltb _ _ h) e; work = rw (lt-ltb _ _ h) }
+  decide-short b is y e =
+      let h = too-short w b is y in
+      record { decision = rw (lt-ltb _ _ h) e; work = rw (lt-ltb _ _ h) }
 
   -- it is long enough
-  pub decide-long : (w′ : List ℕ) → 4096 ≤ length w → (d ≡ decideListing (asked s path method login names) (readingOf s)) × (w′ ≡ zeroed 4096 w)
+  pub decide-long : (w′ : List ℕ) (b : Bool) → b ≡ isShort w → b ≡ false → (d ≡ decideListing (asked s path method login names) (readingOf s)) × (w′ ≡ zeroed 4096 w)
       → DecideOutcome (asked s path method login names) w d w′
   unfolding decisionOf workAfter
-  decide-long w′ h e = record { decision = rw (le-ltb _ _ h) (e .0); work = rw (le-ltb _ _ h) (e .1) }
+  decide-long w′ b is n e =
+      let h = long-enough w b is n in
+      record { decision = rw (le-ltb _ _ h) (e .0); work = rw (le-ltb _ _ h) (e .1) }

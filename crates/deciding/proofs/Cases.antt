@@ -10,7 +10,7 @@ use Rattle.listings.specs.Names.{isRoleName, isMethodName}
 use Rattle.listings.specs.Records.{namesRole}
 use Rattle.listings.specs.Refusals.{readingOf}
 use Rattle.listings.specs.Listings.{listingOf}
-use Rattle.reading.specs.Outcomes.{workSize}
+use Rattle.worktable.specs.Work.{workSize}
 use Rattle.deciding.specs.Requests.{isPath, callerOf}
 use Rattle.deciding.specs.Decisions.{decide, answerNumber}
 use Rattle.deciding.specs.Outcomes.{Asked, answered, decideListing, decisionOf}

@@ -7,15 +7,15 @@ use mathlib.Core.Option.{Option, none, some}
 use Prim.Native.Nat.{ℕ}
 use native.Mathlib.Omega.{arith}
 use Rattle.listings.specs.Refusals.{Reading, accepted, refusal, numberOf, readingOf}
-use Rattle.reading.specs.Outcomes.{isShort}
-use Rattle.reading.specs.Orders.{report, row, listingRow, lastRow, FirstGiven, FirstBroken}
+use Rattle.worktable.specs.Work.{isShort}
+use Rattle.reading.specs.Rows.{report, row, listingRow, lastRow, FirstGiven, FirstBroken}
 use Rattle.listings.specs.declared.answers.Report.{Report}
 use Rattle.listings.specs.declared.answers.Fault.{Fault}
 use Rattle.listings.proofs.Exactly.{refused-exactly}
 use Rattle.reading.proofs.Firsts.{firstOf, first-exactly, one-refusal, side-tells}
 use Rattle.deciding.specs.Requests.{Caller, isPath, isMethod, callerOf}
 use Rattle.deciding.specs.Outcomes.{refused, Asked, decideCaller, decideListing, decisionOf}
-use Rattle.deciding.specs.Rules.{isBad, decideRows, reportIn}
+use Rattle.deciding.specs.Rows.{isBad, decideRows, reportIn}
 
 module _ (a : Asked) where
   -- the rows behind the listing's

@@ -11,19 +11,8 @@ use Rattle.listings.specs.Patterns.{extension}
 use Rattle.text.proofs.Truths.{never, and-left, and-right, and-both}
 use Rattle.text.proofs.Spans.{same-equal, same-self}
 use Rattle.listings.proofs.Plainly.{starts-plain}
-use Rattle.deciding.specs.Matching.{afterLastOr, afterLast, lastSegment, hasExtension, kindMatches}
+use Rattle.deciding.specs.Matching.{afterLastOr, afterLast, lastSegment, hasExtension, kindMatches, Extended}
 use Rattle.deciding.proofs.Endings.{last-none, last-behind, has-middle}
-
--- ---- "matches when the last segment (after the last `/`) has a `.` and E is what follows the last one"
--- the path is front`/`name`.`e
-pub record Extended (e path : Text) : Type 0 where
-  pub front : Text
-  pub name : Text
-  pub whole : path ≡ front ++ slash ∷ (name ++ dot ∷ e)
-  -- no `/` behind that one, so name`.`e is the last segment
-  pub segment : has slash (name ++ dot ∷ e) ≡ false
-  -- no `.` behind that one
-  pub last : has dot e ≡ false
 
 -- a text with a byte is cut at its last one
 last-cut : (b : ℕ) (keep t : Text) → has b t ≡ true → (u : Text) × (t ≡ u ++ b ∷ afterLastOr b keep t) × (has b (afterLastOr b keep t) ≡ false)

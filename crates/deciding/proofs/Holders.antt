@@ -177,22 +177,3 @@ module _ (l : Listing) (few : length (l .roles) ≤ 32) where
         go none = (λ e. refl, λ e. refl)
         go (some nobody) = (λ e. cc, λ e. cc)
         go (some (holder ns)) = (λ e. cc, λ e. cc)
-
-    -- nobody is logged in exactly where Requests reads that
-    pub held-nobody : (login : ℕ) (names : Text) → (heldBy l login names ≡ Nobody) ↔ (callerOf login names ≡ some nobody)
-    held-nobody login names = rw (held-caller login names) (go (callerOf login names))
-      where
-        go : (c : Option Caller) → (heldAs l c ≡ Nobody) ↔ (c ≡ some nobody)
-        go none = (λ e. cc, λ e. cc)
-        go (some nobody) = (λ e. refl, λ e. refl)
-        go (some (holder ns)) = (λ e. cc, λ e. cc)
-
-    -- and one who is holds the roles among the names that Requests reads
-    pub held-roles : (login : ℕ) (names : Text) (x : ℕ)
-        → (heldBy l login names ≡ Roles x) ↔ ((ns : List Text) × (callerOf login names ≡ some (holder ns)) × (x ≡ heldSet l ns))
-    held-roles login names x = rw (held-caller login names) (go (callerOf login names))
-      where
-        go : (c : Option Caller) → (heldAs l c ≡ Roles x) ↔ ((ns : List Text) × (c ≡ some (holder ns)) × (x ≡ heldSet l ns))
-        go none = (λ e. let z : _≡_ {A = ℕ} 0 1 = cc in absurd (omega arith), λ r. let e = r .1 in cc)
-        go (some nobody) = (λ e. let z : _≡_ {A = ℕ} 0 1 = cc in absurd (omega arith), λ r. let e = r .1 in cc)
-        go (some (holder ns)) = (λ e. (ns, refl, cc), λ r. let e = r .1 in let f = r .2 in cc)

@@ -13,7 +13,7 @@ use lib.Dec.{eqb, ltb}
 use lib.Bits.{bitOr}
 use borrow.Author.Tests.{le-ltb, not-true}
 use Rattle.text.specs.Texts.{Text, bytes, same, member, run, indexOf}
-use Rattle.listings.specs.Listings.{Constrained, Listing, Rule, covers, closes, rulesOf, isEmpty, patternsOf}
+use Rattle.listings.specs.Listings.{Constrained, Listing, PatternLine, covers, closes, patternLinesOf, isEmpty, patternsOf}
 use Rattle.reading.specs.Sets.{setOf, digit}
 use Rattle.reading.specs.Views.{coverSet, admitSet, accessOf, coverAt, accessAt, admits}
 use Rattle.reading.specs.declared.held.Access.the-variants as K
@@ -52,7 +52,7 @@ module _ (l : Listing) (P : Proper l) (m : Text) where
   nameless = not-so (member [] (l .methods)) (λ e. let h = P .methods-named [] e in omega arith)
 
   -- a rule covers a method as it covers the one at its place, which is none where the method is not named
-  covers-at : (r : Rule) → List·Memᴰ r (rulesOf l) → covers (r .collection) (getD (l .methods) (indexOf m (l .methods)) []) ≡ covers (r .collection) m
+  covers-at : (r : PatternLine) → List·Memᴰ r (patternLinesOf l) → covers (r .collection) (getD (l .methods) (indexOf m (l .methods)) []) ≡ covers (r .collection) m
   unfolding covers
   covers-at r i = go (decLt (indexOf m (l .methods)) (length (l .methods)))
     where
@@ -69,7 +69,7 @@ module _ (l : Listing) (P : Proper l) (m : Text) where
           )
 
   -- so the digit at the method's place says whether the rule covers it
-  covers-digit : (r : Rule) → List·Memᴰ r (rulesOf l) → eqb (digit (indexOf m (l .methods)) (coverSet l (r .collection))) 1 ≡ covers (r .collection) m
+  covers-digit : (r : PatternLine) → List·Memᴰ r (patternLinesOf l) → eqb (digit (indexOf m (l .methods)) (coverSet l (r .collection))) 1 ≡ covers (r .collection) m
   unfolding coverSet
   covers-digit r i =
       ap (λ (x : ℕ). eqb x 1) (digit-set 32 (λ k. covers (r .collection) (getD (l .methods) k [])) (indexOf m (l .methods))
@@ -83,7 +83,7 @@ module _ (l : Listing) (P : Proper l) (m : Text) where
 
 -- ---- a line and its rule
 -- what stands at no line
-abbrev noRule : Rule
+abbrev noRule : PatternLine
 noRule = record {
   text = [];
   collection = record { patterns = []; methods = []; omitted = [] };
@@ -91,11 +91,11 @@ noRule = record {
 }
 
 -- the rule of line k
-abbrev ruleAt : Listing → ℕ → Rule
-ruleAt l k = getD (rulesOf l) k noRule
+abbrev ruleAt : Listing → ℕ → PatternLine
+ruleAt l k = getD (patternLinesOf l) k noRule
 
 -- it is one of the rules
-rule-listed : (rs : List Rule) (k : ℕ) → k < length rs → List·Memᴰ (getD rs k noRule) rs
+rule-listed : (rs : List PatternLine) (k : ℕ) → k < length rs → List·Memᴰ (getD rs k noRule) rs
 rule-listed [] k h = absurd (omega arith)
 rule-listed (r ∷ rs) zero h = List·Memᴰ·head refl
 rule-listed (r ∷ rs) (suc k) h = List·Memᴰ·tail (rule-listed rs k (omega arith))
@@ -106,24 +106,24 @@ map-at f [] k d z h = absurd (omega arith)
 map-at f (x ∷ xs) zero d z h = refl
 map-at f (x ∷ xs) (suc k) d z h = map-at f xs k d z (omega arith)
 
-module _ (l : Listing) (P : Proper l) (t m : Text) (k : ℕ) (h : k < length (rulesOf l)) where
+module _ (l : Listing) (P : Proper l) (t m : Text) (k : ℕ) (h : k < length (patternLinesOf l)) where
   -- a line is for the text and the method where its rule is
   line-is-for : isLineFor l t (indexOf m (l .methods)) k ≡ isFor t m (ruleAt l k)
   unfolding isLineFor isFor patternsOf coverAt
   line-is-for =
       ap₂ (λ (u : Text) (x : ℕ). same u t && eqb (digit (indexOf m (l .methods)) x) 1)
-      (map-at (λ (r : Rule). r .text) (rulesOf l) k noRule [] h) (map-at (λ (r : Rule). coverSet l (r .collection)) (rulesOf l) k noRule 0 h)
-      ∙ ap (λ (b : Bool). same (ruleAt l k .text) t && b) (covers-digit l P m (ruleAt l k) (rule-listed (rulesOf l) k h))
+      (map-at (λ (r : PatternLine). r .text) (patternLinesOf l) k noRule [] h) (map-at (λ (r : PatternLine). coverSet l (r .collection)) (patternLinesOf l) k noRule 0 h)
+      ∙ ap (λ (b : Bool). same (ruleAt l k .text) t && b) (covers-digit l P m (ruleAt l k) (rule-listed (patternLinesOf l) k h))
 
   -- it says what its rule's constraint says
   line-access : accessAt l k ≡ accessOf l (ruleAt l k .constraint)
   unfolding accessAt
-  line-access = map-at (λ (r : Rule). accessOf l (r .constraint)) (rulesOf l) k noRule K.Open h
+  line-access = map-at (λ (r : PatternLine). accessOf l (r .constraint)) (patternLinesOf l) k noRule K.Open h
 
 -- there are as many lines as rules
-line-count : (l : Listing) → length (patternsOf l) ≡ length (rulesOf l)
+line-count : (l : Listing) → length (patternsOf l) ≡ length (patternLinesOf l)
 unfolding patternsOf
-line-count l = length-map (rulesOf l) (λ (r : Rule). r .text)
+line-count l = length-map (patternLinesOf l) (λ (r : PatternLine). r .text)
 
 -- ---- what is joined and what is gathered
 -- those of the listing's roles that pass, as digits
@@ -170,7 +170,7 @@ closed-admits declared k n e = go (k .allowed) e
     go (a ∷ ns) e = absurd (never false e refl)
 
 -- whom a rule's constraint admits has a role of the listing
-admits-listed : (l : Listing) → Proper l → (r : Rule) → List·Memᴰ r (rulesOf l) → (n : Text) → admits (l .declared) (r .constraint) n ≡ true → member n (l .roles) ≡ true
+admits-listed : (l : Listing) → Proper l → (r : PatternLine) → List·Memᴰ r (patternLinesOf l) → (n : Text) → admits (l .declared) (r .constraint) n ≡ true → member n (l .roles) ≡ true
 unfolding admits
 admits-listed l P r i n e = go (not (same n (bytes "*")) && member n (r .constraint .allowed)) refl e
   where
@@ -181,7 +181,7 @@ admits-listed l P r i n e = go (not (same n (bytes "*")) && member n (r .constra
         (and-right (not (same n (bytes "*"))) (member n (r .constraint .allowed)) q)
     go false q e = P .declared-listed n (and-right (member (bytes "*") (r .constraint .allowed)) (member n (l .declared)) e)
 
-module _ (l : Listing) (P : Proper l) (r : Rule) (here : List·Memᴰ r (rulesOf l)) (j : Joined) (g : Gathered) (A : Agree l j g) where
+module _ (l : Listing) (P : Proper l) (r : PatternLine) (here : List·Memᴰ r (patternLinesOf l)) (j : Joined) (g : Gathered) (A : Agree l j g) where
   -- so has whom it admits with those before
   both-listed : (n : Text) → g .admitted n || admits (l .declared) (r .constraint) n ≡ true → member n (l .roles) ≡ true
   both-listed n e = go (g .admitted n) refl e
@@ -227,30 +227,30 @@ module _ (l : Listing) (P : Proper l) (r : Rule) (here : List·Memᴰ r (rulesOf
 
 module _ (l : Listing) (P : Proper l) (t m : Text) where
   -- the first k lines
-  agree-up-to : (k : ℕ) → k ≤ length (rulesOf l)
-      → Agree l (joinedUpTo l t (indexOf m (l .methods)) k) (run (withRule (l .declared) t m) nothingGathered (take k (rulesOf l)))
+  agree-up-to : (k : ℕ) → k ≤ length (patternLinesOf l)
+      → Agree l (joinedUpTo l t (indexOf m (l .methods)) k) (run (withRule (l .declared) t m) nothingGathered (take k (patternLinesOf l)))
   unfolding joinedUpTo run
   agree-up-to zero h = agree-start l
   agree-up-to (suc k) h =
-      rw (← add-one k, run-step (withRule (l .declared) t m) nothingGathered (rulesOf l) k noRule h, line-is-for l P t m k h)
+      rw (← add-one k, run-step (withRule (l .declared) t m) nothingGathered (patternLinesOf l) k noRule h, line-is-for l P t m k h)
       (go (isFor t m (ruleAt l k)) refl (agree-up-to k (omega arith)))
     where
       j : Joined
       j = joinedUpTo l t (indexOf m (l .methods)) k
 
       g : Gathered
-      g = run (withRule (l .declared) t m) nothingGathered (take k (rulesOf l))
+      g = run (withRule (l .declared) t m) nothingGathered (take k (patternLinesOf l))
 
       go : (b : Bool) → isFor t m (ruleAt l k) ≡ b → Agree l j g → Agree l (cond b (joinWith j (accessAt l k)) j) (withRule (l .declared) t m g (ruleAt l k))
       go true e A =
           rw (rule-taken (l .declared) t m g (ruleAt l k) e, line-access l P t m k h)
-          (agree-more l P (ruleAt l k) (rule-listed (rulesOf l) k h) j g A)
+          (agree-more l P (ruleAt l k) (rule-listed (patternLinesOf l) k h) j g A)
       go false e A = rw (rule-past (l .declared) t m g (ruleAt l k) e) A
 
   -- all of them
   pub agree-all : Agree l (joinedUpTo l t (indexOf m (l .methods)) (length (patternsOf l))) (gathered l t m)
   unfolding gathered
-  agree-all = rw (line-count l) (rw take-length at (agree-up-to (length (rulesOf l)) (omega arith)))
+  agree-all = rw (line-count l) (rw take-length at (agree-up-to (length (patternLinesOf l)) (omega arith)))
 
 -- ---- the answer
 module _ (l : Listing) (j : Joined) (g : Gathered) (A : Agree l j g) where

@@ -9,7 +9,7 @@ use lib.Seq.{take-all, length-take-le}
 use lib.Dec.{ltb, eqb, eqb·suc-zero, eqb·suc-suc}
 use borrow.Author.Tests.{ltb-true, ltb-false, eq-eqb, ne-eqb, eqb-true, eqb-false, not-false}
 use Rattle.text.specs.Texts.{Text, bytes, slash, dot, same, has, startsWith, endsWith, part, run}
-use Rattle.listings.specs.Patterns.{PatternKind, exact, prefix, extension, default, refused, isExtension, kindOf}
+use Rattle.listings.specs.Patterns.{PatternKind, exact, prefix, extension, default, unpermitted, isExtension, kindOf}
 use Rattle.listings.specs.Listings.{listingOf, patternsOf}
 use Rattle.reading.specs.Holds.{Holds}
 use Rattle.reading.specs.declared.tables.Tally.{Tally}
@@ -121,7 +121,7 @@ strength-is t path z e =
         cond a (exact (bytes "/"))
         (cond b default
         (cond c (cond d (prefix (take (length t - 2) t)) (exact t))
-        (cond e (extension (drop 2 t)) refused)))
+        (cond e (extension (drop 2 t)) unpermitted)))
 
     go : (a b c d e : Bool)
         → cond a (cond (same (bytes "/") path) 1000 0)

@@ -14,7 +14,7 @@ use Rattle.listings.specs.Records.{isStar}
 use Rattle.text.specs.Lines.{Line, linesOf}
 use Rattle.listings.specs.Refusals.{Reading, accepted, refusal, readingOf}
 use Rattle.listings.specs.Listings.{Constrained, Listing, isEmpty, closes, listingOf, patternsOf}
-use Rattle.reading.specs.Outcomes.{workSize, isShort, workAfter}
+use Rattle.worktable.specs.Work.{workSize, isShort, workAfter}
 use Rattle.text.proofs.Truths.{never}
 use Rattle.listings.proofs.Plainly.{member-plain}
 use Rattle.reading.proofs.Unique.{work-same}
@@ -149,6 +149,34 @@ login-never-loses listing path method login login′ names names′ w w′ d e h
       grant = further-roles-never-lose (listingOf listing) path method (g .caller) d (callers-extend login login′ names names′ (g .caller) d (g .called) e h i) (g .grant);
     }
 
+-- ---- a refusal is no grant
+-- of any outcome that satisfies the statement, with a work table of any length: beside a refusal the answer is 0, which is none of the answers' numbers
+pub refusal-grants-nothing : (a : Asked) (w : List ℕ) (d : Decision) (left : List ℕ) → DecideOutcome a w d left → 1 ≤ d .number
+    → (d .answer ≡ 0) × (isGranted d ≡ false)
+unfolding decisionOf
+refusal-grants-nothing a w d left O h = short (isShort w) (readingOf (a .listing)) (O .decision)
+  where
+    refuses : (n s l : ℕ) → d ≡ refused n s l → (d .answer ≡ 0) × (isGranted d ≡ false)
+    refuses n s l e = (ap (λ (x : Decision). x .answer) e, ap isGranted e)
+
+    answers : (k : ℕ) → d ≡ answered k → (d .answer ≡ 0) × (isGranted d ≡ false)
+    answers k e = let z : d .number ≡ 0 = ap (λ (x : Decision). x .number) e in absurd (omega arith)
+
+    called : (c : Option Caller) → d ≡ decideCaller a c → (d .answer ≡ 0) × (isGranted d ≡ false)
+    called none e = refuses 13 0 0 e
+    called (some c) e = answers _ e
+
+    requested : (p m : Bool) → d ≡ cond p (cond m (decideCaller a (callerOf (a .login) (a .names))) (refused 12 0 0)) (refused 11 0 0)
+        → (d .answer ≡ 0) × (isGranted d ≡ false)
+    requested true true e = called (callerOf (a .login) (a .names)) e
+    requested true false e = refuses 12 0 0 e
+    requested false m e = refuses 11 0 0 e
+
+    short : (b : Bool) (r : Reading) → d ≡ cond b (refused 1 0 0) (decideListing a r) → (d .answer ≡ 0) × (isGranted d ≡ false)
+    short true r e = refuses 1 0 0 e
+    short false accepted e = requested (isPath (a .path)) (isMethod (a .method)) e
+    short false (refusal f n) e = refuses _ 1 n e
+
 -- ---- a method that the best pattern does not cover
 -- open to every caller: no wider pattern is asked
 pub uncovered-is-open : (l : Listing) (path method t : Text) (c : Caller) → best (patternsOf l) path ≡ some t → taken t method (l .constraints) ≡ []
@@ -183,3 +211,8 @@ pub contents-never-matter : (a : Asked) (w w′ : List ℕ) → workSize ≤ len
     → (decisionOf a w ≡ decisionOf a w′) × (workAfter w ≡ workAfter w′)
 unfolding decisionOf
 contents-never-matter a w w′ long even e = (rw even, work-same w w′ long even e)
+
+-- and what is handed back is the same with any two work tables that are long enough, however long they are
+pub table-never-matters : (a : Asked) (w w′ : List ℕ) → workSize ≤ length w → workSize ≤ length w′ → decisionOf a w ≡ decisionOf a w′
+unfolding decisionOf
+table-never-matters a w w′ long long′ = rw (le-ltb (length w) workSize long, le-ltb (length w′) workSize long′)

@@ -11,9 +11,9 @@ use lib.Seq.{append-snoc, getD-at}
 use lib.Dec.{eqb, ltb}
 use borrow.Author.Tests.{lt-ltb, le-ltb, ltb-true, ltb-false, eqb-true, eqb-false}
 use Rattle.text.specs.Texts.{Text, bytes, run}
-use Rattle.listings.specs.Patterns.{PatternKind, exact, prefix, extension, default, refused, kindOf}
+use Rattle.listings.specs.Patterns.{PatternKind, exact, prefix, extension, default, unpermitted, kindOf, Shape}
 use Rattle.text.proofs.Truths.{never}
-use Rattle.listings.proofs.Plainly.{Shape, shape}
+use Rattle.listings.proofs.Plainly.{shape}
 use Rattle.deciding.specs.Matching.{kindMatches, matches, rank, size, isBetter, best}
 use Rattle.deciding.specs.Strengths.{kindStrength, strength, startLeading, lead, leading, bestLine}
 use Rattle.deciding.specs.declared.decisions.Leading.{Leading}
@@ -34,7 +34,7 @@ weighs t h = go (kindOf t) (shape t)
         (omega arith, omega arith, omega arith, omega arith)
     go (extension e) s = (omega arith, omega arith, omega arith, refl)
     go default s = (omega arith, omega arith, omega arith, refl)
-    go refused s = (omega arith, omega arith, omega arith, refl)
+    go unpermitted s = (omega arith, omega arith, omega arith, refl)
 
 -- so numbers compare as ranks, then sizes
 module _ (a b s c d r : ℕ) (v : Weighs a b s) (w : Weighs c d r) where
@@ -80,7 +80,7 @@ kind-some (exact q) path e = omega arith
 kind-some (prefix p) path e = omega arith
 kind-some (extension q) path e = omega arith
 kind-some default path e = omega arith
-kind-some refused path e = absurd (never false e refl)
+kind-some unpermitted path e = absurd (never false e refl)
 
 pub strength-some : (t path : Text) → (matches t path ≡ true) ↔ (0 < strength t path)
 strength-some t path = (λ e. rw (strength-match t path e) (kind-some (kindOf t) path e), λ h. go (matches t path) refl h)
@@ -88,14 +88,6 @@ strength-some t path = (λ e. rw (strength-match t path e) (kind-some (kindOf t)
     go : (b : Bool) → matches t path ≡ b → 0 < strength t path → matches t path ≡ true
     go true e h = e
     go false e h = let z = strength-none t path e in absurd (omega arith)
-
--- numbers are small
-pub strength-most : (t path : Text) → length t ≤ 255 → strength t path ≤ 1000
-strength-most t path h = go (matches t path) refl
-  where
-    go : (b : Bool) → matches t path ≡ b → strength t path ≤ 1000
-    go true e = let w = weighs t h in rw (strength-match t path e) (omega arith)
-    go false e = rw (strength-none t path e) (omega arith)
 
 -- ---- the line of the strongest
 -- what is known when the texts ts are gone through

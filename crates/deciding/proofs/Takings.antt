@@ -9,7 +9,7 @@ use lib.ListN.{length, take, getD}
 use lib.Seq.{take-suc}
 use Rattle.text.specs.Texts.{Text, bytes, same, member, run}
 use Rattle.listings.specs.Records.{isStar}
-use Rattle.listings.specs.Listings.{Collected, Constrained, Listing, Rule, covers, closes, rulesInCollection, rulesInConstraint, rulesOf}
+use Rattle.listings.specs.Listings.{Collected, Constrained, Listing, PatternLine, covers, closes, linesInCollection, linesInConstraint, patternLinesOf}
 use Rattle.text.proofs.Spans.{same-equal}
 use Rattle.text.proofs.Indices.{run-snoc}
 use Rattle.listings.proofs.Plainly.{same-swap, member-append}
@@ -21,18 +21,18 @@ use Rattle.reading.specs.Views.{admits}
 
 -- ---- a constraint is taken where one of its rules is for the pattern text and the method
 -- one of the rules passes
-unfoldable pub anyRule : (Rule → Bool) → List Rule → Bool
+unfoldable pub anyRule : (PatternLine → Bool) → List PatternLine → Bool
 anyRule f [] = false
 anyRule f (r ∷ rs) = f r || anyRule f rs
 
-any-append : (f : Rule → Bool) (xs ys : List Rule) → anyRule f (xs ++ ys) ≡ anyRule f xs || anyRule f ys
+any-append : (f : PatternLine → Bool) (xs ys : List PatternLine) → anyRule f (xs ++ ys) ≡ anyRule f xs || anyRule f ys
 unfolding anyRule
 any-append f [] ys = refl
 any-append f (x ∷ xs) ys = ap (λ (b : Bool). f x || b) (any-append f xs ys) ∙ sym (or-assoc (f x) (anyRule f xs) (anyRule f ys))
 
 module _ (t m : Text) (P : Constrained → Bool) where
   -- the rule is for them, and its constraint passes
-  abbrev pub passing : Rule → Bool
+  abbrev pub passing : PatternLine → Bool
   passing r = isFor t m r && P (r .constraint)
 
   in-collection : (k : Constrained) (c : Collected) (ts : List Text)
@@ -44,19 +44,19 @@ module _ (t m : Text) (P : Constrained → Bool) where
       ∙ sym (and-or-distrib-right (same u t && covers c m) (member t us && covers c m) (P k))
       ∙ ap (λ (b : Bool). b && P k) (sym (and-or-distrib-right (same u t) (member t us) (covers c m)))
 
-  in-constraint : (k : Constrained) (cs : List Collected) → anyRule passing (flatMap (rulesInCollection k) cs) ≡ isTaken t m cs && P k
+  in-constraint : (k : Constrained) (cs : List Collected) → anyRule passing (flatMap (linesInCollection k) cs) ≡ isTaken t m cs && P k
   unfolding anyRule isTaken flatMap
   in-constraint k [] = refl
   in-constraint k (c ∷ cs) =
-      any-append passing (rulesInCollection k c) (flatMap (rulesInCollection k) cs)
+      any-append passing (linesInCollection k c) (flatMap (linesInCollection k) cs)
       ∙ ap₂ _||_ (in-collection k c (c .patterns)) (in-constraint k cs)
       ∙ sym (and-or-distrib-right (member t (c .patterns) && covers c m) (isTaken t m cs) (P k))
 
-  in-constraints : (ks : List Constrained) → anyRule passing (flatMap rulesInConstraint ks) ≡ anyOf P (taken t m ks)
+  in-constraints : (ks : List Constrained) → anyRule passing (flatMap linesInConstraint ks) ≡ anyOf P (taken t m ks)
   unfolding anyRule taken anyOf flatMap
   in-constraints [] = refl
   in-constraints (k ∷ ks) =
-      any-append passing (rulesInConstraint k) (flatMap rulesInConstraint ks)
+      any-append passing (linesInConstraint k) (flatMap linesInConstraint ks)
       ∙ ap₂ _||_ (in-constraint k (k .collections)) (in-constraints ks)
       ∙ go (isTaken t m (k .collections))
     where
@@ -65,8 +65,8 @@ module _ (t m : Text) (P : Constrained → Bool) where
       go false = refl
 
   -- a constraint that passes is taken exactly where a rule is for the text and the method whose constraint passes
-  pub any-taken : (l : Listing) → anyRule passing (rulesOf l) ≡ anyOf P (taken t m (l .constraints))
-  unfolding rulesOf
+  pub any-taken : (l : Listing) → anyRule passing (patternLinesOf l) ≡ anyOf P (taken t m (l .constraints))
+  unfolding patternLinesOf
   any-taken l = in-constraints (l .constraints)
 
 -- ---- the roles that a constraint allows
@@ -154,7 +154,7 @@ combine-plain declared (k ∷ ks) = refl
 -- a part of what is gathered, that a constraint makes true where it passes, is true where it was or a rule passes
 module _ (declared : List Text) (t m : Text) (part : Gathered → Bool) (P : Constrained → Bool)
     (adds : (g : Gathered) (k : Constrained) → part (withConstraint declared g k) ≡ part g || P k) where
-  part-rule : (g : Gathered) (r : Rule) → part (withRule declared t m g r) ≡ part g || passing t m P r
+  part-rule : (g : Gathered) (r : PatternLine) → part (withRule declared t m g r) ≡ part g || passing t m P r
   unfolding withRule
   part-rule g r = go (isFor t m r)
     where
@@ -162,7 +162,7 @@ module _ (declared : List Text) (t m : Text) (part : Gathered → Bool) (P : Con
       go true = adds g (r .constraint)
       go false = sym (or-false (part g))
 
-  part-run : (g : Gathered) (rs : List Rule) → part (run (withRule declared t m) g rs) ≡ part g || anyRule (passing t m P) rs
+  part-run : (g : Gathered) (rs : List PatternLine) → part (run (withRule declared t m) g rs) ≡ part g || anyRule (passing t m P) rs
   unfolding run anyRule
   part-run g [] = sym (or-false (part g))
   part-run g (r ∷ rs) =
@@ -176,7 +176,7 @@ module _ (l : Listing) (t m : Text) where
       → part nothingGathered ≡ false → part (gathered l t m) ≡ anyOf P (taken t m (l .constraints))
   unfolding gathered
   part-taken part P adds e =
-      part-run (l .declared) t m part P adds nothingGathered (rulesOf l) ∙ ap (λ (b : Bool). b || anyRule (passing t m P) (rulesOf l)) e ∙ any-taken t m P l
+      part-run (l .declared) t m part P adds nothingGathered (patternLinesOf l) ∙ ap (λ (b : Bool). b || anyRule (passing t m P) (patternLinesOf l)) e ∙ any-taken t m P l
 
   -- there is a constraint to take
   pub gathered-taken : gathered l t m .taken ≡ anyOf (λ k. true) (taken t m (l .constraints))
@@ -224,11 +224,11 @@ pub run-step {ℓ κ} : {S : Type ℓ} {A : Type κ} (f : S → A → S) (z : S)
 run-step f z xs i d h = rw (add-one i, take-suc xs i d h) (run-snoc f z (take i xs) (getD xs i d))
 
 -- a rule that is not for the text or the method changes nothing
-pub rule-past : (declared : List Text) (t m : Text) (g : Gathered) (r : Rule) → isFor t m r ≡ false → withRule declared t m g r ≡ g
+pub rule-past : (declared : List Text) (t m : Text) (g : Gathered) (r : PatternLine) → isFor t m r ≡ false → withRule declared t m g r ≡ g
 unfolding withRule
 rule-past declared t m g r e = rw e
 
 -- one that is for both adds its constraint
-pub rule-taken : (declared : List Text) (t m : Text) (g : Gathered) (r : Rule) → isFor t m r ≡ true → withRule declared t m g r ≡ withConstraint declared g (r .constraint)
+pub rule-taken : (declared : List Text) (t m : Text) (g : Gathered) (r : PatternLine) → isFor t m r ≡ true → withRule declared t m g r ≡ withConstraint declared g (r .constraint)
 unfolding withRule
 rule-taken declared t m g r e = rw e

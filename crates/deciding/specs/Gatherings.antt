@@ -1,19 +1,19 @@
--- The answer of a listing from its rules, one `pattern` line after the other: for the proofs alone, which show that it is Decisions' answer.
+-- The answer of a listing from its `pattern` lines, one after the other: for the proofs alone, which show that it is Decisions' answer.
 use mathlib.Core.Bool.{Bool, true, false, not, cond, _&&_, _||_}
 use mathlib.Core.List.{List, [], _∷_}
 use Rattle.text.specs.Texts.{Text, same, run}
-use Rattle.listings.specs.Listings.{Constrained, Listing, Rule, covers, closes, rulesOf}
+use Rattle.listings.specs.Listings.{Constrained, Listing, PatternLine, covers, closes, patternLinesOf}
 use Rattle.deciding.specs.Requests.{Caller, nobody, holder}
 use Rattle.deciding.specs.declared.answers.Answer.{Answer}
 use Rattle.deciding.specs.declared.answers.Answer.the-variants.{Open, ByRole, Closed, LoginWanted, RoleLacking}
 use Rattle.reading.specs.Views.{admits}
 
--- the rule has that pattern text and covers the method
-unfoldable pub isFor : Text → Text → Rule → Bool
+-- the line has that pattern text, and its collection covers the method
+unfoldable pub isFor : Text → Text → PatternLine → Bool
 unfolding same covers
 isFor t m r = same (r .text) t && covers (r .collection) m
 
--- what the constraints of those rules come to so far: whether there is one, one that closes, one that is `open`, and one that admits a role
+-- what the constraints of those lines come to so far: whether there is one, one that closes, one that is `open`, and one that admits a role
 pub record Gathered : Type 0 where
   pub taken : Bool
   pub closed : Bool
@@ -32,14 +32,14 @@ withConstraint declared g k = record {
   admitted = λ n. g .admitted n || admits declared k n;
 }
 
--- with one rule more
-unfoldable pub withRule : List Text → Text → Text → Gathered → Rule → Gathered
+-- with one line more
+unfoldable pub withRule : List Text → Text → Text → Gathered → PatternLine → Gathered
 unfolding isFor closes admits
 withRule declared t m g r = cond (isFor t m r) (withConstraint declared g (r .constraint)) g
 
 unfoldable pub gathered : Listing → Text → Text → Gathered
-unfolding run withRule rulesOf
-gathered l t m = run (withRule (l .declared) t m) nothingGathered (rulesOf l)
+unfolding run withRule patternLinesOf
+gathered l t m = run (withRule (l .declared) t m) nothingGathered (patternLinesOf l)
 
 -- one of the names passes
 unfoldable pub anyName : (Text → Bool) → List Text → Bool

@@ -8,7 +8,7 @@ use lib.Dec.{eqb}
 use Rattle.text.specs.Texts.{Text}
 use Rattle.listings.specs.Refusals.{Reading, accepted, refusal, numberOf, shortTable, badPath, badMethod, badCaller, readingOf}
 use Rattle.listings.specs.Listings.{Listing, listingOf}
-use Rattle.reading.specs.Outcomes.{isShort, workAfter}
+use Rattle.worktable.specs.Work.{isShort, workAfter}
 use Rattle.deciding.specs.Requests.{Caller, Request, isPath, isMethod, callerOf}
 use Rattle.deciding.specs.Decisions.{decide, isGrant, answerNumber}
 use Rattle.deciding.specs.declared.answers.Decision.{Decision}

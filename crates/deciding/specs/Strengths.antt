@@ -7,7 +7,7 @@ use mathlib.Core.Option.{Option, none, some}
 use lib.ListN.{length, take, drop}
 use lib.Dec.{eqb, ltb}
 use Rattle.text.specs.Texts.{Text, bytes, dot, same, has, startsWith, endsWith, run}
-use Rattle.listings.specs.Patterns.{PatternKind, exact, prefix, extension, default, refused, isExtension, kindOf}
+use Rattle.listings.specs.Patterns.{PatternKind, exact, prefix, extension, default, unpermitted, isExtension, kindOf}
 use Rattle.deciding.specs.Matching.{afterLast, lastSegment, hasExtension, isUnder, kindMatches, matches}
 use Rattle.deciding.specs.declared.decisions.Leading.{Leading}
 use Rattle.deciding.specs.declared.matching.Ending.{Ending}
@@ -18,7 +18,7 @@ kindStrength (exact q) = 1000
 kindStrength (prefix p) = 3 + length p
 kindStrength (extension e) = 2
 kindStrength default = 1
-kindStrength refused = 0
+kindStrength unpermitted = 0
 
 -- 0 where the pattern text does not match the path
 unfoldable pub strength : Text → Text → ℕ

@@ -46,7 +46,7 @@ pub fn holder(table: &[u8; 256], s: &[u8], w: &[u32], t: Tally, names: &[u8]) ->
         if names.len() <= e {
             return Held::Bad;
         }
-        if names[e] != 10 {
+        if names[e] != b'\n' {
             return Held::Bad;
         }
         if !names::is_role_name(&names[at..e], clean) {

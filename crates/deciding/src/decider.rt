@@ -3,8 +3,9 @@ ghost use mathlib.Core.Path.{_≡_};
 ghost use Prim.Native.Nat.{_≤_};
 ghost use lib.ListN.{length};
 ghost use Rattle.listings.specs.Listings.{listingOf};
-ghost use Rattle.reading.specs.Outcomes.{zeroed};
+ghost use Rattle.worktable.specs.Work.{zeroed};
 ghost use Rattle.listings.specs.Refusals.{readingOf};
+ghost use Rattle.reading.specs.Room.{listingRoom};
 ghost use Rattle.reading.specs.Holds.{Holds, LoadOutcome};
 ghost use Rattle.deciding.specs.Outcomes.{asked, DecideOutcome, decideListing, decideRequest};
 ghost use Rattle.deciding.specs.Deciders.{answerFor};
@@ -117,13 +118,13 @@ pub fn decide_with(
     w: &mut [u32],
     n: usize,
 ) -> Decision
-    requires { ⌜ (720 ≤ n) × (n ≤ length (now w)) ⌝ }
+    requires { ⌜ (listingRoom ≤ n) × (n ≤ length (now w)) ⌝ }
     ensures handed { λ r. ⌜ r ≡ decideListing (asked (now (s .entry)) (now (path .entry)) (now (method .entry)) login (now (names .entry))) (readingOf (now (s .entry))) ⌝ }
     ensures work { λ _. ⌜ now (w .exit) ≡ zeroed n (now (w .entry)) ⌝ }
 {
     let l = reader::load(s, &mut w[..n]);
     let d = decide_loaded(l, s, &w[..n], path, method, login, names);
-    reader::zero_first(w, n);
+    worktable::zero_first(w, n);
     d
 }
 
@@ -140,8 +141,8 @@ pub extern "C" fn budquarry_decide(
 ) -> Decision
     ensures { λ r. ⌜ DecideOutcome (asked (now (listing .entry)) (now (path .entry)) (now (method .entry)) login (now (roles .entry))) (now (work .entry)) r (now (work .exit)) ⌝ }
 {
-    if work.len() < reader::WORK {
+    if worktable::is_short(work) {
         return refuse(SHORT_TABLE, 0, 0);
     }
-    decide_with(listing, path, method, login, roles, work, reader::WORK)
+    decide_with(listing, path, method, login, roles, work, worktable::WORK)
 }

@@ -39,10 +39,10 @@ pub fn ending_of(path: &[u8]) -> Ending
     let mut at = path.len();
     while 0 < at {
         let b = path[at - 1];
-        if b == 46 {
+        if b == b'.' {
             return Ending { some: true, at: at };
         }
-        if b == 47 {
+        if b == b'/' {
             return Ending {
                 some: false,
                 at: at,
@@ -67,7 +67,7 @@ pub fn is_under(p: &[u8], path: &[u8]) -> bool
     if path.len() == n {
         return true;
     }
-    path[n] == 47
+    path[n] == b'/'
 }
 
 // How strongly a pattern text that starts with '/' and is longer matches the path.

@@ -11,7 +11,7 @@ use borrow.Author.Tests.{not-true, not-false}
 use borrow.Rule.Slice.PartMut.{putMid}
 use Rattle.text.specs.Texts.{Text, part}
 use Rattle.listings.specs.Listings.{listingOf, patternsOf}
-use Rattle.reading.specs.Outcomes.{zeroed}
+use Rattle.worktable.specs.Work.{zeroed}
 use Rattle.reading.specs.Holds.{Holds}
 use Rattle.reading.specs.declared.tables.Tally.{Tally}
 use Rattle.text.proofs.Truths.{never}

@@ -33,13 +33,13 @@ pub fn mark_number(t: &[u8], marks: &mut [u32])
     let mut i = 0;
     while i < n {
         let b = t[i];
-        if b < 48 {
+        if b < b'0' {
             return;
         }
-        if 57 < b {
+        if b'9' < b {
             return;
         }
-        v = v * 10 + (b - 48) as usize;
+        v = v * 10 + (b - b'0') as usize;
         if 65535 < v {
             return;
         }
@@ -60,7 +60,7 @@ pub fn mark_text(t: &[u8], marks: &mut [u32])
     let mut i = 0;
     while i < n {
         let next = i + 1;
-        if t[i] == 113 {
+        if t[i] == b'q' {
             mark_number(&t[next..], marks);
             i = next;
         } else {
@@ -116,7 +116,7 @@ pub fn filler_number(new: &[u8], tn: Tally, old: &[u8], to: Tally, w: &mut [u32]
 {
     let a = 2 * n;
     let e = 4 * n;
-    reader::zero_first(&mut w[a..e], a);
+    worktable::zero_first(&mut w[a..e], a);
     mark_lines(new, w, tn, n, n);
     mark_lines(old, w, to, 0, n);
     first_unmarked(&w[a..e])
@@ -136,7 +136,7 @@ pub fn is_unnamed(
     ensures { λ r. ⌜ r ≡ isUnnamed (listingOf (now (new .entry)) .methods ++ listingOf (now (old .entry)) .methods) n ⌝ }
 {
     let mut name = [0; 8];
-    let size = writing::put_numbered(&mut name, 81, n);
+    let size = writing::put_numbered(&mut name, b'Q', n);
     let i = held::method_index(new, wn, tn, &name[..size]);
     if i < held::method_count(new, wn, tn) {
         return false;

@@ -31,11 +31,11 @@ pub fn put_digits(out: &mut [u8], at: usize, n: usize, k: usize) -> usize
         return at;
     }
     if n < 10 {
-        out[at] = 48 + n as u8;
+        out[at] = b'0' + n as u8;
         return at + 1;
     }
     let e = put_digits(out, at, n / 10, k - 1);
-    out[e] = 48 + (n % 10) as u8;
+    out[e] = b'0' + (n % 10) as u8;
     e + 1
 }
 

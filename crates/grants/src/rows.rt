@@ -10,6 +10,7 @@ use deciding::decisions::Joined;
 use reading::held::Access;
 use reading::tables;
 
+// The set of all callers.
 pub const EVERYONE: u64 = 18446744073709551615;
 
 // What the table says of line k.

@@ -12,7 +12,7 @@ use Rattle.listings.specs.Records.{withField}
 use Rattle.listings.specs.declared.records.Kind.the-variants.{Constraint}
 use Rattle.listings.specs.declared.records.Named.{Named}
 use Rattle.listings.specs.declared.records.Named.the-variants.{Known, Unknown}
-use Rattle.listings.specs.Patterns.{exact, prefix, extension, default, refused, isExtension, kindOf, isPermitted}
+use Rattle.listings.specs.Patterns.{exact, prefix, extension, default, unpermitted, isExtension, kindOf, isPermitted}
 use Rattle.text.proofs.Truths.{never, not-so}
 use Rattle.text.proofs.Spans.{same-equal, same-lengths, starts-short, from-on}
 
@@ -111,7 +111,7 @@ starred-long t r e h = starts-long (bytes "*.") t r e h
 -- what kindOf's ladder permits
 module _ (t p u e : Text) where
   ladder-permits : (a b c d x : Bool) →
-      isPermitted (cond a (exact t) (cond b default (cond c (cond d (prefix p) (exact u)) (cond x (extension e) refused)))) ≡ (a || (b || (c || x)))
+      isPermitted (cond a (exact t) (cond b default (cond c (cond d (prefix p) (exact u)) (cond x (extension e) unpermitted)))) ≡ (a || (b || (c || x)))
   ladder-permits true b c d x = refl
   ladder-permits false true c d x = refl
   ladder-permits false false true true x = refl

@@ -45,7 +45,7 @@ placesOf Method = 192
 placesOf Omit = 320
 placesOf End = 451
 
--- the first `method` line of a collection takes all others out
+-- a `method` line at that place is the first of its collection, and takes all other methods out
 abbrev pub isFirstMethod : Place → Bool
 isFirstMethod AfterFirst = false
 isFirstMethod AfterRole = false

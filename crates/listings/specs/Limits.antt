@@ -32,7 +32,7 @@ mostRoles = 32
 abbrev pub mostMethods : ℕ
 mostMethods = 31
 
--- the same, by what the code calls it
+-- the same, by what is counted
 abbrev pub mostOf : Counted → ℕ
 mostOf Bytes = mostBytes
 mostOf Constraints = mostConstraints

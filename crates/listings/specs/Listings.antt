@@ -115,23 +115,23 @@ unfolding listingIn recordsOf
 listingOf s = listingIn (recordsOf s)
 
 -- ---- the listing line by line of its patterns: a pattern, with the collection and the constraint that it stands in
-pub record Rule : Type 0 where
+pub record PatternLine : Type 0 where
   pub text : Text
   pub collection : Collected
   pub constraint : Constrained
 
-abbrev pub rulesInCollection : Constrained → Collected → List Rule
-rulesInCollection k c = map (λ (t : Text). record { text = t; collection = c; constraint = k }) (c .patterns)
+abbrev pub linesInCollection : Constrained → Collected → List PatternLine
+linesInCollection k c = map (λ (t : Text). record { text = t; collection = c; constraint = k }) (c .patterns)
 
-abbrev pub rulesInConstraint : Constrained → List Rule
-rulesInConstraint k = flatMap (rulesInCollection k) (k .collections)
+abbrev pub linesInConstraint : Constrained → List PatternLine
+linesInConstraint k = flatMap (linesInCollection k) (k .collections)
 
--- one rule for each `pattern` line, in order
-unfoldable pub rulesOf : Listing → List Rule
+-- each `pattern` line, in order
+unfoldable pub patternLinesOf : Listing → List PatternLine
 unfolding flatMap
-rulesOf l = flatMap rulesInConstraint (l .constraints)
+patternLinesOf l = flatMap linesInConstraint (l .constraints)
 
 -- the pattern texts, line by line
 unfoldable pub patternsOf : Listing → List Text
-unfolding rulesOf
-patternsOf l = map (λ (r : Rule). r .text) (rulesOf l)
+unfolding patternLinesOf
+patternsOf l = map (λ (r : PatternLine). r .text) (patternLinesOf l)

@@ -131,17 +131,17 @@ unfoldable pub fieldsWhere : (Record → Bool) → List Record → List Text
 fieldsWhere test [] = []
 fieldsWhere test (r ∷ rs) = cond (test r) (r .field ∷ fieldsWhere test rs) (fieldsWhere test rs)
 
--- `allow⇥*`
+-- the name that in `allow⇥*` stands for every declared role
 unfoldable pub isStar : Text → Bool
 unfolding same
 isStar n = same n (bytes "*")
 
--- the roles that a record declares or allows by name
+-- the record declares a role, or allows one by name
 unfoldable pub namesRole : Record → Bool
 unfolding isStar
 namesRole r = isKind Role r || (isKind Allow r && cond (isStar (r .field)) false true)
 
--- the methods that a record names
+-- the record names a method
 abbrev pub namesMethod : Record → Bool
 namesMethod r = isKind Method r || isKind Omit r
 

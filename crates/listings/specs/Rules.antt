@@ -82,7 +82,7 @@ unfoldable pub broken : Text → Fault → ℕ → Bool
 unfolding brokenIn linesOf
 broken s f n = brokenIn (length s) (linesOf s) f n
 
--- "within a line 4, 5, 6, 7, 9, 8"
+-- "within a line 4, 5, 6, 7, 9, 8"; 2, 3 and 10 share their line with no other
 abbrev pub orderOf : Fault → ℕ
 orderOf LongListing = 0
 orderOf BadFirstLine = 1

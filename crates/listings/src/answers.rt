@@ -1,4 +1,4 @@
-// What reading answers.
+// What a call can be refused for, and 01's numbers.
 ghost use mathlib.Core.Path.{_≡_};
 ghost use Rattle.listings.specs.Refusals.{numberOf};
 

@@ -13,11 +13,15 @@ pub enum Counted {
     Methods,
 }
 
+// The most bytes.
+pub const BYTES: usize = 24576;
+
+// The most-number: how many of them a listing may hold.
 pub fn most(c: Counted) -> usize
     ensures { λ r. ⌜ r ≡ mostOf c ⌝ }
 {
     match c {
-        Counted::Bytes => 24576,
+        Counted::Bytes => BYTES,
         Counted::Constraints => 64,
         Counted::Collections => 128,
         Counted::Patterns => 128,

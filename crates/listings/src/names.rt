@@ -76,13 +76,13 @@ pub fn is_extension(t: &[u8]) -> bool
     if t.len() == 0 {
         return false;
     }
-    if texts::has_byte(46, t) {
+    if texts::has_byte(b'.', t) {
         return false;
     }
-    if texts::has_byte(47, t) {
+    if texts::has_byte(b'/', t) {
         return false;
     }
-    !texts::has_byte(42, t)
+    !texts::has_byte(b'*', t)
 }
 
 // Whether t is of a kind that 01 permits: empty, or it starts with `/`, or it is `*.` and an extension.

@@ -5,6 +5,7 @@ ghost use Rattle.listings.specs.Records.{placeNumber, mayFollow};
 ghost use Rattle.listings.specs.Heads.{isFirstMethod, placesOf, headOfPart, headOf};
 use text::texts;
 
+// The kinds of record.
 pub enum Kind {
     Role,
     Constraint,
@@ -43,7 +44,7 @@ pub struct Headed {
     pub size: usize,
 }
 
-// The head of a line that begins a part of the listing.
+// The head of a `role`, `constraint`, `collection` or `end` line.
 pub fn head_of_part(t: &[u8]) -> Headed
     ensures is { λ r. ⌜ r ≡ headOfPart (now (t .entry)) ⌝ }
     ensures small { λ r. ⌜ r .size < 100 ⌝ }
@@ -110,6 +111,7 @@ pub fn head(t: &[u8]) -> Headed
     head_of_part(t)
 }
 
+// The number of a place: its digit in a set of places.
 pub fn place_number(p: Place) -> u8
     ensures { λ r. ⌜ r ≡ placeNumber p ⌝ }
 {

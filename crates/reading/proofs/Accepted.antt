@@ -15,7 +15,7 @@ use Rattle.text.specs.Bytes.{between, isText, isToken}
 use Rattle.listings.specs.Names.{madeOf, isName, isRoleName, isMethodName, isPattern, nameFits, patternFits}
 use Rattle.listings.specs.Limits.{count}
 use Rattle.listings.specs.Refusals.{accepted, readingOf}
-use Rattle.listings.specs.Listings.{Collected, Constrained, Listing, Rule, adds, constraintsIn, listingIn, recordsOf, listingOf, rulesInCollection, rulesInConstraint, rulesOf, newConstraint, addAllowed, addCollection, addPattern, addMethod, addOmitted, inCollection, patternsOf}
+use Rattle.listings.specs.Listings.{Collected, Constrained, Listing, PatternLine, adds, constraintsIn, listingIn, recordsOf, listingOf, linesInCollection, linesInConstraint, patternLinesOf, newConstraint, addAllowed, addCollection, addPattern, addMethod, addOmitted, inCollection, patternsOf}
 use Rattle.reading.specs.Tables.{tablesOf}
 use Rattle.listings.specs.declared.records.Kind.{Kind}
 use Rattle.listings.specs.declared.records.Kind.the-variants.{Role, Constraint, Allow, Collection, Pattern, Method, Omit, End}
@@ -240,25 +240,25 @@ good rs (sound-more before r s p) = good-more before (r .kind) (r .field) (good 
 
 -- ---- the patterns, and the rules
 module _ (ms ns : List Text) where
-  pub record Ruled (r : Rule) : Type 0 where
+  pub record Ruled (r : PatternLine) : Type 0 where
     pub text : isPattern (r .text) ≡ true
     pub collection : Speaks ms (r .collection)
     pub constraint : Allows ms ns (r .constraint)
 
-  rules-of-collection : (k : Constrained) → Allows ms ns k → (c : Collected) → Speaks ms c → Each Ruled (rulesInCollection k c)
+  rules-of-collection : (k : Constrained) → Allows ms ns k → (c : Collected) → Speaks ms c → Each Ruled (linesInCollection k c)
   rules-of-collection k a c b =
       each-map Ruled _ (c .patterns)
       (each-more (λ (t : Text). isPattern t ≡ true) _ (λ t h. record { text = h; collection = b; constraint = a }) (c .patterns) (b .patterns))
 
-  rules-of-constraint : (k : Constrained) → Allows ms ns k → Each Ruled (rulesInConstraint k)
+  rules-of-constraint : (k : Constrained) → Allows ms ns k → Each Ruled (linesInConstraint k)
   rules-of-constraint k a =
-      each-flat Ruled (rulesInCollection k) (k .collections)
-      (each-more (Speaks ms) (λ (c : Collected). Each Ruled (rulesInCollection k c)) (rules-of-collection k a) (k .collections) (a .collections))
+      each-flat Ruled (linesInCollection k) (k .collections)
+      (each-more (Speaks ms) (λ (c : Collected). Each Ruled (linesInCollection k c)) (rules-of-collection k a) (k .collections) (a .collections))
 
-  rules-of : (cs : List Constrained) → Each (Allows ms ns) cs → Each Ruled (flatMap rulesInConstraint cs)
+  rules-of : (cs : List Constrained) → Each (Allows ms ns) cs → Each Ruled (flatMap linesInConstraint cs)
   rules-of cs a =
-      each-flat Ruled rulesInConstraint cs
-      (each-more (Allows ms ns) (λ (k : Constrained). Each Ruled (rulesInConstraint k)) rules-of-constraint cs a)
+      each-flat Ruled linesInConstraint cs
+      (each-more (Allows ms ns) (λ (k : Constrained). Each Ruled (linesInConstraint k)) rules-of-constraint cs a)
 
 -- ---- an accepted listing
 -- the same facts, each list gone through
@@ -272,7 +272,7 @@ record Grounds (l : Listing) : Type 0 where
   methods-once : Once (l .methods)
   roles-once : Once (l .roles)
   declared : Each (λ (n : Text). member n (l .roles) ≡ true) (l .declared)
-  rules : Each (Ruled (l .methods) (l .roles)) (rulesOf l)
+  rules : Each (Ruled (l .methods) (l .roles)) (patternLinesOf l)
 
 members-front : (us vs : List Text) → Each (λ (n : Text). member n (us ++ vs) ≡ true) us
 unfolding member
@@ -285,15 +285,15 @@ members-front (u ∷ us) vs =
     or-true-right false b h = h
 
 grounds : (rs : List Record) → Sound rs → Grounds (listingIn rs)
-unfolding listingIn rulesOf patternsOf rolesIn methodsIn
+unfolding listingIn patternLinesOf patternsOf rolesIn methodsIn
 grounds rs s =
     let K = kept rs s in
     let P = pictures rs s in
     let F = sound-few rs s in
     let R = rules-of (methodsIn rs) (rolesIn rs) (constraintsIn rs) (spoken rs s) in
     record {
-      patterns = each-map (λ (t : Text). isPattern t ≡ true) (λ (r : Rule). r .text) (flatMap rulesInConstraint (constraintsIn rs))
-          (each-more (Ruled (methodsIn rs) (rolesIn rs)) _ (λ r h. h .text) (flatMap rulesInConstraint (constraintsIn rs)) R);
+      patterns = each-map (λ (t : Text). isPattern t ≡ true) (λ (r : PatternLine). r .text) (flatMap linesInConstraint (constraintsIn rs))
+          (each-more (Ruled (methodsIn rs) (rolesIn rs)) _ (λ r h. h .text) (flatMap linesInConstraint (constraintsIn rs)) R);
       methods = good rs s .0;
       roles = good rs s .1;
       few-patterns = omega (arith, ap length (P .patterns), K .patterns, F .patterns);
@@ -343,14 +343,14 @@ pub record Proper (l : Listing) : Type 0 where
   pub methods-once : Once (l .methods)
   pub good-methods : (m : Text) → member m (l .methods) ≡ true → isMethodName m ≡ true
   pub methods-named : (m : Text) → member m (l .methods) ≡ true → 1 ≤ length m
-  pub methods-listed : (r : Rule) → List·Memᴰ r (rulesOf l) → (m : Text) → member m (r .collection .methods) ≡ true → member m (l .methods) ≡ true
-  pub omitted-listed : (r : Rule) → List·Memᴰ r (rulesOf l) → (m : Text) → member m (r .collection .omitted) ≡ true → member m (l .methods) ≡ true
+  pub methods-listed : (r : PatternLine) → List·Memᴰ r (patternLinesOf l) → (m : Text) → member m (r .collection .methods) ≡ true → member m (l .methods) ≡ true
+  pub omitted-listed : (r : PatternLine) → List·Memᴰ r (patternLinesOf l) → (m : Text) → member m (r .collection .omitted) ≡ true → member m (l .methods) ≡ true
   -- the roles: what is declared, and what a rule's constraint allows, `*` aside, is one of them
   pub few-roles : length (l .roles) ≤ 32
   pub roles-once : Once (l .roles)
   pub good-roles : (n : Text) → member n (l .roles) ≡ true → isRoleName n ≡ true
   pub declared-listed : (n : Text) → member n (l .declared) ≡ true → member n (l .roles) ≡ true
-  pub allowed-listed : (r : Rule) → List·Memᴰ r (rulesOf l) → (n : Text) → same n (bytes "*") ≡ false
+  pub allowed-listed : (r : PatternLine) → List·Memᴰ r (patternLinesOf l) → (n : Text) → same n (bytes "*") ≡ false
       → member n (r .constraint .allowed) ≡ true → member n (l .roles) ≡ true
 
 proper : (l : Listing) → Grounds l → Proper l
@@ -373,8 +373,8 @@ proper l g =
       allowed-listed = λ r i n s h. rw s at (each-member (λ (n : Text). (isStar n || member n (l .roles)) ≡ true) (r .constraint .allowed) (rule r i .constraint .allowed) n h);
     }
   where
-    rule : (r : Rule) → List·Memᴰ r (rulesOf l) → Ruled (l .methods) (l .roles) r
-    rule = each-mem (Ruled (l .methods) (l .roles)) (rulesOf l) (g .rules)
+    rule : (r : PatternLine) → List·Memᴰ r (patternLinesOf l) → Ruled (l .methods) (l .roles) r
+    rule = each-mem (Ruled (l .methods) (l .roles)) (patternLinesOf l) (g .rules)
 
 pub accepted-proper : (s : Text) → readingOf s ≡ accepted → Proper (listingOf s)
 unfolding listingOf

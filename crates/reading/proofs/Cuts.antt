@@ -191,10 +191,6 @@ part-none s p = let z : p - p ≡ 0 = omega arith in rw z
 
 -- ---- the line at a place of the text, with a tab behind its first field
 module _ (s : Text) (at p e : ℕ) (q : p ≡ at + toFieldEnd (drop at s)) (h : p < length s) (n : getD s p 0 ≡ 10 → ⊥) (k : e ≡ p + 1 + toFieldEnd (drop (p + 1) s)) (T : Tables) where
-  -- the second field lies behind the first
-  pub line-from : at ≤ e
-  line-from = omega arith
-
   first-field : Field (part at p s)
   first-field = field-cut s at p q
 

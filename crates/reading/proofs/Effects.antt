@@ -16,7 +16,7 @@ use Rattle.listings.specs.Records.{isStar, mayFollow}
 use Rattle.listings.specs.Names.{madeOf, isName, isRoleName, isMethodName, isPattern, isConstraintKind}
 use Rattle.reading.specs.Sets.{withMember, withoutMember, lowest}
 use Rattle.listings.specs.Heads.{isFirstMethod}
-use Rattle.reading.specs.Tables.{Tables, packed, Fits, Field, StepOutcome, Steps, steppedBy, next, tablesAt, region, textsAt, checkRole, checkConstraint, checkAllow, checkCollection, checkPattern, checkMethod, addRole, addConstraint, addAllow, addCollection, addPattern, addMethod, addOmit, fieldCheck, fieldAdd, checkRecord, stepFrom, recordWith}
+use Rattle.reading.specs.Tables.{Tables, packed, Fits, Field, StepOutcome, Steps, steppedBy, next, tablesAt, region, textsAt, checkRole, checkConstraint, checkAllow, checkCollection, checkPattern, checkMethod, addRole, addConstraint, addAllow, addCollection, addPattern, addMethod, addOmit, fieldCheck, fieldAdd, checkRecord, stepFrom, recordWith, spanned}
 use Rattle.reading.specs.Tallies.{tallyAt, tallyRole, tallyConstraint, tallyAllowed, tallyCollection, tallyPattern, tallyLine, tallyMethod}
 use Rattle.listings.specs.declared.answers.Fault.{Fault}
 use Rattle.listings.specs.declared.answers.Fault.the-variants.{WrongPlace, BadName, BadPattern, RoleTwice, PastMost}
@@ -192,7 +192,7 @@ module _ (s : Text) (t : Tally) (w : List ℕ) (a e : ℕ) (d : Field s t w a e)
         refused checkPattern addPattern s t w a e left PastMost (rw (← good, y, G.count-patterns s t w (d .fits), le-leb _ _ h))
 
     pub pattern-next : (r : Tally) (left : List ℕ) (most : ℕ) → most ≡ 128
-        → left ≡ set (set (set w (64 + t .patterns) (packed s a e)) (192 + t .patterns) (t .collections)) (320 + t .patterns) (t .constraints)
+        → left ≡ set (set (set w (64 + t .patterns) (spanned a e)) (192 + t .patterns) (t .collections)) (320 + t .patterns) (t .constraints)
         → r ≡ tallyPattern t → not b ≡ false → t .patterns < most → Steps checkPattern addPattern s t w a e (Next r) left
     pattern-next r left most x l m y g =
         let h : t .patterns < 128 = omega (arith, x) in

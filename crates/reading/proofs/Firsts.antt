@@ -10,8 +10,9 @@ use lib.Dec.{eqb}
 use Rattle.text.specs.Texts.{Text}
 use Rattle.listings.specs.Refusals.{Reading, accepted, refusal, numberOf, readingOf}
 use Rattle.listings.specs.Rules.{orderOf}
-use Rattle.reading.specs.Outcomes.{isShort, reportOf, shortReport, readReport}
-use Rattle.reading.specs.Orders.{report, row, listingRow, lastRow, FirstGiven, FirstBroken, readRows}
+use Rattle.worktable.specs.Work.{isShort}
+use Rattle.reading.specs.Outcomes.{reportOf, shortReport, readReport}
+use Rattle.reading.specs.Rows.{report, row, listingRow, lastRow, FirstGiven, FirstBroken, readRows}
 use Rattle.listings.specs.declared.answers.Report.{Report}
 use Rattle.listings.specs.declared.answers.Fault.{Fault}
 use Rattle.listings.specs.declared.answers.Fault.the-variants.{LongListing, BadFirstLine, BadForm, WrongPlace, BadName, BadPattern, RoleTwice, PastMost, NoEnd}

@@ -8,14 +8,14 @@ use lib.ListN.{length, set, getD, length-set}
 use lib.Bits.{bitOr, or-zero-l}
 use Rattle.text.specs.Texts.{Text, bytes, same, onLast, part, indexOf}
 use Rattle.listings.specs.Heads.{isFirstMethod}
-use Rattle.reading.specs.Tables.{Tables, Fits, packed, tablesAt, region, textsAt, indexed, addAllowTo, addMethodTo, addRole, addConstraint, addAllow, addCollection, addPattern, addMethod, addOmit}
+use Rattle.reading.specs.Tables.{Tables, Fits, packed, tablesAt, region, textsAt, indexed, addAllowTo, addMethodTo, addRole, addConstraint, addAllow, addCollection, addPattern, addMethod, addOmit, spanned, spansAt}
 use Rattle.listings.specs.Records.{isStar}
 use Rattle.reading.specs.Sets.{withMember, withoutMember, lowest}
 use Rattle.listings.specs.declared.records.Place.{Place}
 use Rattle.listings.specs.declared.records.Place.the-variants.{AfterOpen, AfterAuth, AfterAllow, AfterMethod, AfterOmit}
 use Rattle.reading.specs.Tallies.{tallyAt, tallyRole, tallyConstraint, tallyAllowed, tallyCollection, tallyPattern, tallyLine, tallyMethod}
 use Rattle.reading.specs.declared.tables.Tally.{Tally}
-use Rattle.reading.proofs.Regions.{text-part, texts-append, texts-length, region-length, region-apart, region-append, region-last, on-last-same, indexed-known, indexed-new}
+use Rattle.reading.proofs.Regions.{text-part, texts-append, texts-length, region-length, region-apart, region-append, region-last, on-last-same, indexed-known, indexed-new, span-part, spans-append, spans-length}
 use Rattle.text.proofs.Indices.{index-bound}
 
 -- ---- tables with one list changed
@@ -68,7 +68,7 @@ module _ (s : Text) (t : Tally) (w : List ℕ) (f : Fits s t w) where
 
   pub count-patterns : length (tablesAt s t w .patterns) ≡ t .patterns
   unfolding tablesAt
-  count-patterns = texts-length s (region w 64 (t .patterns)) ∙ region-length w 64 (t .patterns) (omega arith)
+  count-patterns = spans-length s (region w 64 (t .patterns)) ∙ region-length w 64 (t .patterns) (omega arith)
 
   pub count-covers : length (tablesAt s t w .covers) ≡ t .collections
   unfolding tablesAt
@@ -106,7 +106,7 @@ module _ (s : Text) (t : Tally) (w : List ℕ) (f : Fits s t w) (j x : ℕ) wher
         region-apart w 651 (t .constraints) j x (omega arith),
       )
 
-  in-patterns : 64 ≤ j → j < 192 → tablesAt s t (set w j x) ≡ withPatterns (tablesAt s t w) (textsAt s (region (set w j x) 64 (t .patterns)))
+  in-patterns : 64 ≤ j → j < 192 → tablesAt s t (set w j x) ≡ withPatterns (tablesAt s t w) (spansAt s (region (set w j x) 64 (t .patterns)))
   unfolding tablesAt
   in-patterns l h =
       rw (
@@ -342,12 +342,12 @@ module _ (s : Text) (t : Tally) (w : List ℕ) (f : Fits s t w) (a e : ℕ) (fro
 
   pub pattern-grown : t .patterns < 128
       → tablesAt s (tallyPattern t)
-      (set (set (set w (64 + t .patterns) (packed s a e)) (192 + t .patterns) (t .collections)) (320 + t .patterns) (t .constraints))
+      (set (set (set w (64 + t .patterns) (spanned a e)) (192 + t .patterns) (t .collections)) (320 + t .patterns) (t .constraints))
       ≡ addPattern (tablesAt s t w) (part a e s)
   unfolding tablesAt
   pattern-grown h =
       let n = t .patterns in
-      let x = packed s a e in
+      let x = spanned a e in
       let u = tallyPattern t in
       let v = set w (64 + n) x in
       let z = set v (192 + n) (t .collections) in
@@ -360,7 +360,9 @@ module _ (s : Text) (t : Tally) (w : List ℕ) (f : Fits s t w) (a e : ℕ) (fro
       (in-owners s u v fv (192 + n) (t .collections) (omega arith) (omega arith)
       ∙ ap₂ withOwners
       (in-patterns s u w (omega arith) (64 + n) x (omega arith) (omega arith)
-      ∙ ap (withPatterns (tablesAt s u w)) (named s w 64 n a e (omega arith) from to short))
+      ∙ ap (withPatterns (tablesAt s u w)) (ap (spansAt s) (region-append w 64 n x (omega arith))
+      ∙ spans-append s (region w 64 n) x
+      ∙ ap (λ (y : Text). spansAt s (region w 64 n) ++ y ∷ []) (span-part s a e from to short)))
       (region-append v 192 n (t .collections) (omega arith)
       ∙ ap₂ (λ (l : List ℕ) (y : ℕ). l ++ y ∷ []) (region-apart w 192 n (64 + n) x (omega arith)) (sym (count-covers s t w f))))
       (region-append z 320 n (t .constraints) (omega arith)

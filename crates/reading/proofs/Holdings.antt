@@ -1,6 +1,6 @@
 -- What the crates above read off the work table: its numbers, and the texts that they name, are those of the listing that it holds.
 use mathlib.Core.Path.{_≡_, refl, sym, ap, ap₂, _∙_}
-use mathlib.Core.List.{List, [], _∷_}
+use mathlib.Core.List.{List, [], _∷_, map}
 use Prim.Native.Nat.{ℕ, zero, suc, _+_, _*_, _^_, _≤_, _<_}
 use native.Mathlib.Omega.{arith}
 use lib.ListN.{length, getD, List·getD-map}
@@ -9,26 +9,26 @@ use borrow.Author.Tests.{ne-eqb}
 use Rattle.text.specs.Texts.{Text, indexOf}
 use Rattle.listings.specs.Listings.{listingOf, recordsOf, patternsOf}
 use Rattle.reading.specs.Views.{coverAt, accessAt}
-use Rattle.reading.specs.Tables.{region, textAt, stamped, textsAt, tablesAt}
+use Rattle.reading.specs.Tables.{region, textAt, stamped, textsAt, tablesAt, spanAt, spansAt}
 use Rattle.reading.specs.Holds.{Holds}
 use Rattle.reading.specs.declared.tables.Tally.{Tally}
 use Rattle.reading.specs.declared.held.Access.the-variants.{Open, Closed, ByRole}
-use Rattle.reading.proofs.Regions.{region-length, region-at, texts-length}
+use Rattle.reading.proofs.Regions.{region-length, region-at, texts-length, span-none, spans-length}
 use Rattle.reading.proofs.Loads.{accepted-sound}
 use Rattle.reading.proofs.Rulings.{accessBy, Pictures, pictures}
 
--- no text
-text-none : (s : Text) → textAt s 0 ≡ []
-unfolding textAt stamped
-text-none s = refl
+-- what a number of a region names, as f reads it; 0 names no text
+named-by : (f : ℕ → Text) → f 0 ≡ [] → (w : List ℕ) (a n : ℕ) (us : List Text) (k : ℕ) → map f (region w a n) ≡ us → k < n
+    → f (getD w (a + k) 0) ≡ getD us k []
+named-by f z w a n us k e h =
+    ap f (sym (region-at w a n k h))
+    ∙ sym (List·getD-map f (region w a n) k 0)
+    ∙ ap₂ (λ (l : List Text) (d : Text). getD l k d) e z
 
 -- the text that a number of a region names
 named-text : (s : Text) (w : List ℕ) (a n : ℕ) (us : List Text) (k : ℕ) → textsAt s (region w a n) ≡ us → k < n → textAt s (getD w (a + k) 0) ≡ getD us k []
-unfolding textsAt
-named-text s w a n us k e h =
-    ap (textAt s) (sym (region-at w a n k h))
-    ∙ sym (List·getD-map (textAt s) (region w a n) k 0)
-    ∙ ap₂ (λ (l : List Text) (d : Text). getD l k d) e (text-none s)
+unfolding textsAt textAt stamped
+named-text s = named-by (textAt s) refl
 
 -- a number of a region that is counted from 1
 counted-number : (w : List ℕ) (a n c : ℕ) → 1 ≤ c → c ≤ n → getD w (a + c) 0 ≡ getD (0 ∷ region w (a + 1) n) c 0
@@ -69,7 +69,8 @@ module _ (s : Text) (t : Tally) (w : List ℕ) (H : Holds s t w) where
 
   pub pattern-number : t .patterns ≡ length (patternsOf (listingOf s))
   unfolding tablesAt
-  pattern-number = listed 64 (t .patterns) (patternsOf (listingOf s)) (held .patterns) (omega (arith, H .fits .room, H .fits .patterns))
+  pattern-number =
+      sym (region-length w 64 (t .patterns) (omega (arith, H .fits .room, H .fits .patterns))) ∙ sym (spans-length s (region w 64 (t .patterns))) ∙ ap length (held .patterns)
 
   -- ---- where
   pub role-place : (n : Text) (r : ℕ) → r ≡ indexOf n (textsAt s (region w 0 (t .roles))) → r ≡ indexOf n (listingOf s .roles)
@@ -111,9 +112,9 @@ module _ (s : Text) (t : Tally) (w : List ℕ) (H : Holds s t w) where
     pub rule-near : (a : ℕ) → T (leb a 320) → a + k < 720
     rule-near a l = omega (arith, leb→le a 320 l, here, H .fits .patterns)
 
-    pub rule-text : (u : Text) → u ≡ textAt s (getD w (64 + k) 0) → u ≡ getD (patternsOf (listingOf s)) k []
-    unfolding tablesAt
-    rule-text u e = e ∙ named-text s w 64 (t .patterns) (patternsOf (listingOf s)) k (held .patterns) here
+    pub rule-text : (u : Text) → u ≡ spanAt s (getD w (64 + k) 0) → u ≡ getD (patternsOf (listingOf s)) k []
+    unfolding tablesAt spansAt
+    rule-text u e = e ∙ named-by (spanAt s) (span-none s) w 64 (t .patterns) (patternsOf (listingOf s)) k (held .patterns) here
 
     -- ---- its collection
     module _ (c : ℕ) (e : c ≡ getD w (192 + k) 0) where

@@ -21,7 +21,9 @@ use Rattle.reading.specs.declared.tables.Tally.{Tally}
 use Rattle.reading.specs.declared.reader.Loaded.{Loaded}
 use Rattle.reading.specs.declared.reader.Loaded.the-variants.{Whole, Not}
 use Rattle.listings.specs.Refusals.{numberOf}
-use Rattle.reading.specs.Outcomes.{reportOf, zeroed, workAfter, readReport, ReadOutcome}
+use Rattle.worktable.specs.Work.{zeroed, workAfter, isShort}
+use Rattle.worktable.proofs.Lengths.{too-short, long-enough}
+use Rattle.reading.specs.Outcomes.{reportOf, readReport, ReadOutcome}
 use Rattle.listings.specs.declared.answers.Report.{Report}
 use Rattle.listings.proofs.Headers.{header, header-missing, header-there, header-length}
 use Rattle.reading.proofs.Filling.{fill-reads, fill-tables, fill-sound}
@@ -112,10 +114,14 @@ pub report-not : (side : ℕ) (l : Loaded) (f : Fault) (n m : ℕ) → l ≡ Not
 report-not side l f n m e q = rw (e, q)
 
 -- ---- the whole call
-pub read-short : (s w : List ℕ) → length w < 4096 → ReadOutcome s w (record { number = 1; side = 0; line = 0 }) w
+pub read-short : (s w : List ℕ) (b : Bool) → b ≡ isShort w → b ≡ true → ReadOutcome s w (record { number = 1; side = 0; line = 0 }) w
 unfolding readReport workAfter
-read-short s w h = record { handed = rw (lt-ltb _ _ h); work = rw (lt-ltb _ _ h) }
+read-short s w b is y =
+    let h = too-short w b is y in
+    record { handed = rw (lt-ltb _ _ h); work = rw (lt-ltb _ _ h) }
 
-pub read-long : (s w w′ : List ℕ) (r : Report) → 4096 ≤ length w → (r ≡ reportOf 1 (readingOf s)) × (w′ ≡ zeroed 4096 w) → ReadOutcome s w r w′
+pub read-long : (s w w′ : List ℕ) (r : Report) (b : Bool) → b ≡ isShort w → b ≡ false → (r ≡ reportOf 1 (readingOf s)) × (w′ ≡ zeroed 4096 w) → ReadOutcome s w r w′
 unfolding readReport workAfter
-read-long s w w′ r h e = record { handed = rw (le-ltb _ _ h) (e .0); work = rw (le-ltb _ _ h) (e .1) }
+read-long s w w′ r b is n e =
+    let h = long-enough w b is n in
+    record { handed = rw (le-ltb _ _ h) (e .0); work = rw (le-ltb _ _ h) (e .1) }

@@ -10,10 +10,10 @@ use native.Mathlib.Decide.{decLt}
 use lib.ListN.{length, take, drop, getD, set, length-take, length-drop, length-map, drop-of-length-le, List·getD-map}
 use lib.Seq.{take-set-le, drop-set-lt, drop-set-add, take-suc, take-suc-set, getD-take, getD-drop, drop-cons}
 use lib.Arith.{digits-div, digits-mod}
-use borrow.Author.Tests.{lt-ltb, le-ltb, eq-eqb, ne-eqb, eqb-true}
+use borrow.Author.Tests.{lt-ltb, le-ltb, eq-eqb, ne-eqb, eqb-true, le-leb, lt-leb}
 use lib.Dec.{eqb}
 use Rattle.text.specs.Texts.{Text, same, onLast, part, indexOf}
-use Rattle.reading.specs.Tables.{region, stampOf, packed, stamped, textAt, textsAt, indexed}
+use Rattle.reading.specs.Tables.{region, stampOf, packed, stamped, textAt, textsAt, indexed, spanned, spanAt, spansAt}
 use Rattle.text.proofs.Truths.{not-so}
 use Rattle.text.proofs.Spans.{same-equal}
 
@@ -99,6 +99,38 @@ text-part s a e h k l =
     let size : (a * 65536 + z) % 256 ≡ e - a = omega arith in
     rw (from, size, digits-mod a m, eq-eqb z z refl)
 
+-- ---- a pattern's text
+module _ (s : Text) (x f n : ℕ) (p : f ≡ x / 65536) (q : n ≡ x % 65536) where
+  pub span-in : f + n ≤ length s → part f (f + n) s ≡ spanAt s x
+  unfolding spanAt
+  span-in h = rw (add-sub-cancel-left, ← p, ← q, le-leb _ _ h)
+
+  pub span-out : length s < f + n → [] ≡ spanAt s x
+  unfolding spanAt
+  span-out h = rw (← p, ← q, lt-leb _ _ h)
+
+-- 0 spans no text
+pub span-none : (s : Text) → spanAt s 0 ≡ []
+unfolding spanAt
+span-none s = rw (le-leb 0 (length s) (omega arith))
+
+-- the number of the text from a up to e
+pub span-part : (s : Text) (a e : ℕ) → a ≤ e → e ≤ length s → e - a < 256 → spanAt s (spanned a e) ≡ part a e s
+unfolding spanAt
+span-part s a e h k l =
+    let m : e - a < 65536 = omega arith in
+    let o : a + (e - a) ≤ length s = omega arith in
+    rw (digits-div a m, digits-mod a m, le-leb _ _ o)
+
+pub spans-append : (s : Text) (xs : List ℕ) (x : ℕ) → spansAt s (xs ++ x ∷ []) ≡ spansAt s xs ++ spanAt s x ∷ []
+unfolding spansAt
+spans-append s xs x = map-append (spanAt s) xs (x ∷ [])
+
+pub spans-length : (s : Text) (xs : List ℕ) → length (spansAt s xs) ≡ length xs
+unfolding spansAt
+spans-length s xs = length-map xs (spanAt s)
+
+-- ---- names
 pub texts-append : (s : Text) (xs : List ℕ) (x : ℕ) → textsAt s (xs ++ x ∷ []) ≡ textsAt s xs ++ textAt s x ∷ []
 unfolding textsAt
 texts-append s xs x = map-append (textAt s) xs (x ∷ [])

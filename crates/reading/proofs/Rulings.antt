@@ -1,4 +1,4 @@
--- Rule by rule, the tables of sound records say what the listing says.
+-- `pattern` line by `pattern` line, the tables of sound records say what the listing says.
 use mathlib.Core.Path.{_≡_, refl, sym, ap, ap₂, _∙_}
 use mathlib.Core.Bool.{Bool, true, false, not, cond, _&&_}
 use mathlib.Core.List.{List, [], _∷_, map, flatMap, map-id, map-map}
@@ -8,7 +8,7 @@ use lib.ListN.{length, getD, length-map, List·getD-map}
 use lib.Dec.{eqb}
 use Rattle.text.specs.Texts.{Text}
 use Rattle.listings.specs.Records.{Record}
-use Rattle.listings.specs.Listings.{Collected, Constrained, Listing, Rule, isEmpty, covers, closes, rulesInCollection, rulesInConstraint, rulesOf, listingIn, patternsOf}
+use Rattle.listings.specs.Listings.{Collected, Constrained, Listing, PatternLine, isEmpty, covers, closes, linesInCollection, linesInConstraint, patternLinesOf, listingIn, patternsOf}
 use Rattle.reading.specs.Views.{coverSet, admitSet, accessOf, coverAt, accessAt}
 use Rattle.reading.specs.Tables.{Tables, tablesOf}
 use Rattle.reading.specs.declared.held.Access.{Access}
@@ -24,14 +24,14 @@ accessBy mark allowed = cond (eqb mark 0) Open (cond (eqb mark 1) Closed (ByRole
 
 -- ---- the rules of a listing
 -- an image of the rules, by constraint and collection
-rules-map : {B : Type 0} (h : Rule → B) (l : Listing) → map h (rulesOf l)
+rules-map : {B : Type 0} (h : PatternLine → B) (l : Listing) → map h (patternLinesOf l)
     ≡ flatMap (λ (k : Constrained). flatMap (λ (c : Collected).
     map (λ (t : Text). h (record { text = t; collection = c; constraint = k })) (c .patterns)) (k .collections)) (l .constraints)
-unfolding rulesOf
+unfolding patternLinesOf
 rules-map h l =
-    flat-map rulesInConstraint h (l .constraints)
+    flat-map linesInConstraint h (l .constraints)
     ∙ flat-same _ _ (l .constraints) (λ k.
-    flat-map (rulesInCollection k) h (k .collections)
+    flat-map (linesInCollection k) h (k .collections)
     ∙ flat-same _ _ (k .collections) (λ c. map-map h (λ (t : Text). record { text = t; collection = c; constraint = k }) (c .patterns)))
 
 module _ (l : Listing) where
@@ -39,22 +39,22 @@ module _ (l : Listing) where
   rules-text : patternsOf l ≡ flatMap (λ (c : Collected). c .patterns) (collectionsOf (l .constraints))
   unfolding patternsOf
   rules-text =
-      rules-map (λ (r : Rule). r .text) l
+      rules-map (λ (r : PatternLine). r .text) l
       ∙ flat-same _ _ (l .constraints) (λ k. flat-same _ _ (k .collections) (λ c. map-id (c .patterns)))
       ∙ sym (flat-flat (λ (k : Constrained). k .collections) (λ (c : Collected). c .patterns) (l .constraints))
 
   -- what hangs on their collections
   rules-collection : {B : Type 0} (h : Collected → B) →
-      map (λ (r : Rule). h (r .collection)) (rulesOf l) ≡ flatMap (λ (c : Collected). map (λ (t : Text). h c) (c .patterns)) (collectionsOf (l .constraints))
+      map (λ (r : PatternLine). h (r .collection)) (patternLinesOf l) ≡ flatMap (λ (c : Collected). map (λ (t : Text). h c) (c .patterns)) (collectionsOf (l .constraints))
   rules-collection h =
-      rules-map (λ (r : Rule). h (r .collection)) l
+      rules-map (λ (r : PatternLine). h (r .collection)) l
       ∙ sym (flat-flat (λ (k : Constrained). k .collections) (λ (c : Collected). map (λ (t : Text). h c) (c .patterns)) (l .constraints))
 
   -- and on their constraints
   rules-constraint : {B : Type 0} (h : Constrained → B) →
-      map (λ (r : Rule). h (r .constraint)) (rulesOf l) ≡ flatMap (λ (k : Constrained). map (λ (t : Text). h k) (patternsIn k)) (l .constraints)
+      map (λ (r : PatternLine). h (r .constraint)) (patternLinesOf l) ≡ flatMap (λ (k : Constrained). map (λ (t : Text). h k) (patternsIn k)) (l .constraints)
   rules-constraint h =
-      rules-map (λ (r : Rule). h (r .constraint)) l
+      rules-map (λ (r : PatternLine). h (r .constraint)) l
       ∙ flat-same _ _ (l .constraints) (λ k. sym (flat-map (λ (c : Collected). c .patterns) (λ (t : Text). h k) (k .collections)))
 
 -- ---- numbers looked up
@@ -171,12 +171,12 @@ module _ (rs : List Record) (s : Sound rs) where
   unfolding accessAt
   access-at k =
       ap₂ accessBy (on-constraints markOf (tablesOf rs .marks) listed-marks) (on-constraints (admitSet (listingIn rs)) (tablesOf rs .allows) listed-allows)
-      ∙ both-at (λ (r : Rule). markOf (r .constraint)) (λ (r : Rule). admitSet (listingIn rs) (r .constraint))
-      (λ (r : Rule). accessOf (listingIn rs) (r .constraint))
-      (λ r. access-by (listingIn rs) (r .constraint)) (rulesOf (listingIn rs)) k
+      ∙ both-at (λ (r : PatternLine). markOf (r .constraint)) (λ (r : PatternLine). admitSet (listingIn rs) (r .constraint))
+      (λ (r : PatternLine). accessOf (listingIn rs) (r .constraint))
+      (λ r. access-by (listingIn rs) (r .constraint)) (patternLinesOf (listingIn rs)) k
     where
       on-constraints : (g : Constrained → ℕ) (xs : List ℕ) → xs ≡ map g (listingIn rs .constraints) →
-          getD (0 ∷ xs) (getD (tablesOf rs .parents) k 0) 0 ≡ getD (map (λ (r : Rule). g (r .constraint)) (rulesOf (listingIn rs))) k 0
+          getD (0 ∷ xs) (getD (tablesOf rs .parents) k 0) 0 ≡ getD (map (λ (r : PatternLine). g (r .constraint)) (patternLinesOf (listingIn rs))) k 0
       on-constraints g xs e =
           rw (e, listed-parents)
           (looked-at patternsIn g (listingIn rs .constraints) k ∙ ap (λ (ys : List ℕ). getD ys k 0) (sym (rules-constraint (listingIn rs) g)))

@@ -5,7 +5,8 @@ use Prim.Native.Nat.{ℕ, _≤_}
 use lib.ListN.{length, drop}
 use borrow.Author.Tests.{le-ltb}
 use Rattle.text.specs.Texts.{Text}
-use Rattle.reading.specs.Outcomes.{workSize, zeroed, workAfter, readReport, ReadOutcome}
+use Rattle.worktable.specs.Work.{workSize, zeroed, workAfter}
+use Rattle.reading.specs.Outcomes.{readReport, ReadOutcome}
 use Rattle.listings.specs.declared.answers.Report.{Report}
 
 -- two outcomes that both satisfy the statement are equal
@@ -26,3 +27,8 @@ work-same w w′ long even e = rw (← even, le-ltb (length w) workSize long, e)
 pub contents-never-matter : (s : Text) (w w′ : List ℕ) → workSize ≤ length w → length w ≡ length w′ → drop workSize w ≡ drop workSize w′
     → (workAfter w ≡ workAfter w′) × (readReport s w ≡ readReport s w′)
 contents-never-matter s w w′ long even e = (work-same w w′ long even e, report-same s w w′ even)
+
+-- and what is handed back is the same with any two work tables that are long enough, however long they are
+pub table-never-matters : (s : Text) (w w′ : List ℕ) → workSize ≤ length w → workSize ≤ length w′ → readReport s w ≡ readReport s w′
+unfolding readReport
+table-never-matters s w w′ long long′ = rw (le-ltb (length w) workSize long, le-ltb (length w′) workSize long′)

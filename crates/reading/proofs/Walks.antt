@@ -14,7 +14,8 @@ use lib.ListN.{length, take, drop, getD, drop-of-length-le}
 use Rattle.text.specs.Texts.{Text, newline, part}
 use Rattle.text.specs.Lines.{Line, before, linesOf, toFieldEnd}
 use Rattle.listings.specs.Records.{Record, isKind, formed, alone, withField, recordNamed}
-use Rattle.reading.specs.Tables.{Tables, Fits, Stepping, next, wrong, Lining, bad, moved, ended, Filling, filled, unfilled, closing, fillFrom, fillShown, FillFits, FillOutcome, closedAt, startTables, region, textsAt, lineShown, stepFrom, recordWith, isEndKind, linedBy, lineWith, lineFrom, tablesAt, stepShown, StepFits, StepOutcome, LineEnd, Gone, LineFits, LineOutcome}
+use Rattle.reading.specs.Room.{listingRoom}
+use Rattle.reading.specs.Tables.{Tables, Fits, Stepping, next, wrong, Lining, bad, moved, ended, Filling, filled, unfilled, closing, fillFrom, fillShown, FillFits, FillOutcome, closedAt, startTables, region, textsAt, spansAt, lineShown, stepFrom, recordWith, isEndKind, linedBy, lineWith, lineFrom, tablesAt, stepShown, StepFits, StepOutcome, LineEnd, Gone, LineFits, LineOutcome}
 use Rattle.reading.specs.Tallies.{startTally}
 use Rattle.reading.specs.declared.reader.Loaded.{Loaded}
 use Rattle.reading.specs.declared.reader.Loaded.the-variants.{Whole, Not}
@@ -135,8 +136,8 @@ pub record Walking (s : Text) (w₀ : List ℕ) (w : List ℕ) (t : Tally) (c : 
   pub few : c .line ≤ c .at
   pub same : length w ≡ length w₀
 
-pub walk-starts : (s w : List ℕ) (t : Tally) → t ≡ startTally → length s ≤ 24576 → 14 ≤ length s → 720 ≤ length w → Walking s w w t (record { at = 14; line = 2 })
-unfolding tablesAt region textsAt
+pub walk-starts : (s w : List ℕ) (t : Tally) → t ≡ startTally → length s ≤ 24576 → 14 ≤ length s → listingRoom ≤ length w → Walking s w w t (record { at = 14; line = 2 })
+unfolding tablesAt region textsAt spansAt
 walk-starts s w t e h k r =
     rw e (record {
       due = refl;

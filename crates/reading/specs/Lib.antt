@@ -1,18 +1,20 @@
 -- What reading hands back, on the definitions of `text` and `listings`; read those first. Then in this order:
 --   Outcomes  what a call hands back, and what it leaves in the work table
---   Orders    the plain form of the refusals of a whole call, for the theorems that tie it to Outcomes
+--   Rows      the plain form of the refusals of a whole call, for the theorems that tie it to Outcomes
 -- The next are for the proofs alone, and no public statement rests on a reader's believing them:
 --   Sets      sets of small numbers as the digits of a number
---   Views     a listing rule by rule, as sets
+--   Views     a listing `pattern` line by `pattern` line, as sets
 --   Cuts      the line at a place of the text, as the reader cuts it
 --   Tallies   the counts of the work table
+--   Room      how many numbers of the work table a listing takes
 --   Tables    the work table, and reading as it goes over it
 --   Holds     what the crates above know of the work table
 pub mod Outcomes
-pub mod Orders
+pub mod Rows
 pub mod Sets
 pub mod Views
 pub mod Cuts
 pub mod Tallies
+pub mod Room
 pub mod Tables
 pub mod Holds

@@ -12,7 +12,8 @@ use Rattle.text.specs.Lines.{Line, linesOf}
 use Rattle.listings.specs.Records.{Record, formed, placeOf, mayFollow, isKind, isStar}
 use Rattle.listings.specs.Heads.{isFirstMethod}
 use Rattle.listings.specs.Names.{isRoleName, isName, isMethodName, isPattern, isConstraintKind}
-use Rattle.listings.specs.Limits.{mostConstraints, mostCollections, mostPatterns, mostMethodLines, mostRoles, mostMethods}
+use Rattle.listings.specs.Limits.{mostBytes, mostConstraints, mostCollections, mostPatterns, mostMethodLines, mostRoles, mostMethods}
+use Rattle.reading.specs.Room.{listingRoom}
 use Rattle.reading.specs.Sets.{withMember, withoutMember, everything, lowest}
 use Rattle.listings.specs.declared.records.Kind.{Kind}
 use Rattle.listings.specs.declared.records.Kind.the-variants.{Role, Constraint, Allow, Collection, Pattern, Method, Omit, End}
@@ -361,10 +362,6 @@ allowsAt = 580
 abbrev pub marksAt : ℕ
 marksAt = 650
 
--- the numbers that a listing takes
-abbrev pub listingRoom : ℕ
-listingRoom = 720
-
 -- n numbers of the table from place a on
 unfoldable pub region : List ℕ → ℕ → ℕ → List ℕ
 region w a n = take n (drop a w)
@@ -391,16 +388,28 @@ unfoldable pub textsAt : Text → List ℕ → List Text
 unfolding textAt
 textsAt s xs = map (textAt s) xs
 
+-- nothing looks for a pattern's text among the others: its number is its place and its length alone
+abbrev pub spanned : ℕ → ℕ → ℕ
+spanned a e = a * 65536 + (e - a)
+
+-- the text of that place and length, and none where it would run past the end
+unfoldable pub spanAt : Text → ℕ → Text
+spanAt s x = cond (leb (x / 65536 + x % 65536) (length s)) (take (x % 65536) (drop (x / 65536) s)) []
+
+unfoldable pub spansAt : Text → List ℕ → List Text
+unfolding spanAt
+spansAt s xs = map (spanAt s) xs
+
 -- the table's numbers as lists, by the counts
 unfoldable pub tablesAt : Text → Tally → List ℕ → Tables
-unfolding region textsAt
+unfolding region textsAt spansAt
 tablesAt s t w = record {
   place = t .place;
   lines = t .lines;
   declared = t .declared;
   roles = textsAt s (region w rolesAt (t .roles));
   methods = textsAt s (region w methodsAt (t .methods));
-  patterns = textsAt s (region w patternsAt (t .patterns));
+  patterns = spansAt s (region w patternsAt (t .patterns));
   owners = region w ownersAt (t .patterns);
   parents = region w parentsAt (t .patterns);
   covers = region w (coversAt + 1) (t .collections);
@@ -410,15 +419,15 @@ tablesAt s t w = record {
 
 -- the counts within their limits, the text too, and the room for them
 pub record Fits (s : Text) (t : Tally) (w : List ℕ) : Type 0 where
-  pub short : length s ≤ 24576
+  pub short : length s ≤ mostBytes
   pub room : listingRoom ≤ length w
   pub declared : t .declared ≤ t .roles
-  pub roles : t .roles ≤ 32
-  pub methods : t .methods ≤ 31
-  pub patterns : t .patterns ≤ 128
-  pub lines : t .lines ≤ 512
-  pub collections : t .collections ≤ 128
-  pub constraints : t .constraints ≤ 64
+  pub roles : t .roles ≤ mostRoles
+  pub methods : t .methods ≤ mostMethods
+  pub patterns : t .patterns ≤ mostPatterns
+  pub lines : t .lines ≤ mostMethodLines
+  pub collections : t .collections ≤ mostCollections
+  pub constraints : t .constraints ≤ mostConstraints
 
 -- ---- the program's answers in those terms
 abbrev pub stepShown : Text → Stepped → List ℕ → Stepping

@@ -1,4 +1,4 @@
--- What `held` answers of an accepted listing, rule by rule, as sets: a rule is a `pattern` line with its collection and its constraint. For the proofs alone,
+-- What `held` answers of an accepted listing, `pattern` line by `pattern` line, as sets. For the proofs alone,
 -- which show that the decisions made of these sets are those of Decisions.
 use Prim.Native.Nat.{ℕ}
 use mathlib.Core.Bool.{Bool, true, false, not, cond, _&&_, _||_}
@@ -6,7 +6,7 @@ use mathlib.Core.List.{List, [], _∷_, map}
 use lib.ListN.{length, getD}
 use lib.Dec.{ltb}
 use Rattle.text.specs.Texts.{Text, bytes, same, member}
-use Rattle.listings.specs.Listings.{Collected, Constrained, Listing, Rule, covers, closes, rulesOf}
+use Rattle.listings.specs.Listings.{Collected, Constrained, Listing, PatternLine, covers, closes, patternLinesOf}
 use Rattle.reading.specs.Sets.{setOf}
 use Rattle.reading.specs.declared.held.Access.{Access}
 use Rattle.reading.specs.declared.held.Access.the-variants.{Open, Closed, ByRole}
@@ -33,9 +33,9 @@ accessOf l k = cond (k .isOpen) Open (cond (closes k) Closed (ByRole (admitSet l
 
 -- ---- at line k of the patterns
 unfoldable pub coverAt : Listing → ℕ → ℕ
-unfolding rulesOf coverSet
-coverAt l k = getD (map (λ (r : Rule). coverSet l (r .collection)) (rulesOf l)) k 0
+unfolding patternLinesOf coverSet
+coverAt l k = getD (map (λ (r : PatternLine). coverSet l (r .collection)) (patternLinesOf l)) k 0
 
 unfoldable pub accessAt : Listing → ℕ → Access
-unfolding rulesOf accessOf
-accessAt l k = getD (map (λ (r : Rule). accessOf l (r .constraint)) (rulesOf l)) k Open
+unfolding patternLinesOf accessOf
+accessAt l k = getD (map (λ (r : PatternLine). accessOf l (r .constraint)) (patternLinesOf l)) k Open

@@ -31,7 +31,7 @@ pub fn pattern<'a, 'b>(s: &'a [u8], w: &'b [u32], t: Tally, k: usize) -> &'a [u8
     requires { ⌜ Holds (now s) t (now w) × (k < length (patternsOf (listingOf (now s)))) ⌝ }
     ensures { λ r. ⌜ now r ≡ getD (patternsOf (listingOf (now (s .entry)))) k [] ⌝ }
 {
-    tables::text_at(s, w[tables::PATTERNS + k])
+    tables::span_at(s, w[tables::PATTERNS + k])
 }
 
 // The methods that the collection of `pattern` line k covers, as the digits of a number.

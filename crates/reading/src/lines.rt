@@ -24,7 +24,7 @@ pub fn ends_at(text: &[u8], e: usize) -> bool
     if text.len() <= e {
         return false;
     }
-    text[e] == 10
+    text[e] == b'\n'
 }
 
 // The line at a place of the text.

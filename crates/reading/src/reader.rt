@@ -7,7 +7,10 @@ ghost use Rattle.text.specs.Bytes.{isText, classTable};
 ghost use Rattle.text.specs.Lines.{linesOf};
 ghost use Rattle.listings.specs.Records.{recordNamed};
 ghost use Rattle.listings.specs.Refusals.{readingOf};
-ghost use Rattle.reading.specs.Outcomes.{reportOf, zeroed, ReadOutcome};
+ghost use Rattle.reading.specs.Outcomes.{reportOf, ReadOutcome};
+ghost use Rattle.worktable.specs.Work.{zeroed};
+ghost use Rattle.listings.specs.Limits.{mostBytes};
+ghost use Rattle.reading.specs.Room.{listingRoom};
 ghost use Rattle.reading.specs.Tables.{Fits, Field, LineEnd, LineOutcome, FillOutcome, lineWith, lineFrom, fillFrom, tablesAt, startTables, isEndKind, closedAt};
 ghost use Rattle.reading.specs.Holds.{LoadOutcome, readingShown};
 use crate::lines;
@@ -56,6 +59,7 @@ impl Cursor {
     }
 }
 
+// Whether it is `end`.
 pub fn is_end(k: Kind) -> bool
     ensures { λ r. ⌜ r ≡ isEndKind k ⌝ }
 {
@@ -118,7 +122,7 @@ pub fn line(table: &[u8; 256], s: &[u8], w: &mut [u32], t: Tally, c: Cursor) -> 
 
 // The lines behind the first.
 pub fn fill(table: &[u8; 256], s: &[u8], w: &mut [u32]) -> Loaded
-    requires { ⌜ (now table ≡ classTable) × ((length (now s) ≤ 24576) × ((14 ≤ length (now s)) × (720 ≤ length (now w)))) ⌝ }
+    requires { ⌜ (now table ≡ classTable) × ((length (now s) ≤ mostBytes) × ((14 ≤ length (now s)) × (listingRoom ≤ length (now w)))) ⌝ }
     ensures { λ r. ⌜ FillOutcome (now (s .entry)) (fillFrom startTables 2 (linesOf (drop 14 (now (s .entry))))) r (now (w .exit)) ⌝ }
 {
     let mut t = Tally::start();
@@ -158,7 +162,7 @@ pub fn has_first_line(s: &[u8]) -> bool
 
 // The whole listing: where it is accepted, w holds it.
 pub fn load(s: &[u8], w: &mut [u32]) -> Loaded
-    requires { ⌜ 720 ≤ length (now w) ⌝ }
+    requires { ⌜ listingRoom ≤ length (now w) ⌝ }
     ensures { λ r. ⌜ LoadOutcome (now (s .entry)) r (now (w .exit)) ⌝ }
 {
     if most(Counted::Bytes) < s.len() {
@@ -172,18 +176,6 @@ pub fn load(s: &[u8], w: &mut [u32]) -> Loaded
 }
 
 // ---- the work table around a call
-
-// The first n numbers become 0.
-pub fn zero_first(w: &mut [u32], n: usize)
-    requires { ⌜ n ≤ length (now w) ⌝ }
-    ensures { λ _. ⌜ now (w .exit) ≡ zeroed n (now (w .entry)) ⌝ }
-{
-    let mut i = 0;
-    while i < n {
-        w[i] = 0;
-        i += 1;
-    }
-}
 
 // What is handed back of a reading, on its side.
 pub fn report(side: u32, l: Loaded) -> Report
@@ -205,28 +197,26 @@ pub fn report(side: u32, l: Loaded) -> Report
 
 // Reads a listing with the first n numbers of w, which are 0 afterwards. The length is a parameter, so that no proof computes with it.
 pub fn read_with(s: &[u8], w: &mut [u32], n: usize) -> Report
-    requires { ⌜ (720 ≤ n) × (n ≤ length (now w)) ⌝ }
+    requires { ⌜ (listingRoom ≤ n) × (n ≤ length (now w)) ⌝ }
     ensures handed { λ r. ⌜ r ≡ reportOf 1 (readingOf (now (s .entry))) ⌝ }
     ensures work { λ _. ⌜ now (w .exit) ≡ zeroed n (now (w .entry)) ⌝ }
 {
     let loaded = load(s, &mut w[..n]);
-    zero_first(w, n);
+    worktable::zero_first(w, n);
     report(1, loaded)
 }
-
-pub const WORK: usize = 4096;
 
 // Reads a listing: accepted, or refused with a number, side 1 and a line. Numbers and sides as 01 has them.
 #[no_mangle]
 pub extern "C" fn budquarry_read(listing: &[u8], work: &mut [u32]) -> Report
     ensures { λ r. ⌜ ReadOutcome (now (listing .entry)) (now (work .entry)) r (now (work .exit)) ⌝ }
 {
-    if work.len() < WORK {
+    if worktable::is_short(work) {
         return Report {
             number: answers::SHORT_TABLE,
             side: 0,
             line: 0,
         };
     }
-    read_with(listing, work, WORK)
+    read_with(listing, work, worktable::WORK)
 }

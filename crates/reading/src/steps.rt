@@ -14,6 +14,7 @@ use listings::records::Kind;
 use listings::records::Place;
 use text::texts;
 
+// What a record comes to: the counts with it, or the rule that it breaks.
 pub enum Stepped {
     Next(Tally),
     Wrong(Fault),
@@ -113,7 +114,7 @@ pub fn pattern(s: &[u8], w: &mut [u32], t: Tally, a: usize, e: usize, clean: boo
     if most(Counted::Patterns) <= n {
         return Stepped::Wrong(Fault::PastMost);
     }
-    tables::put_pattern(s, w, n, a, e, c, k);
+    tables::put_pattern(w, n, a, e, c, k);
     Stepped::Next(t.with_pattern())
 }
 

@@ -6,11 +6,12 @@ ghost use lib.Bits.{bitOr};
 ghost use mathlib.Core.Bool.{cond};
 ghost use Rattle.reading.specs.Sets.{withMember, withoutMember, lowest};
 ghost use Rattle.text.specs.Texts.{same, indexOf};
-ghost use Rattle.reading.specs.Tables.{stampOf, packed, textAt, textsAt, region};
+ghost use Rattle.reading.specs.Tables.{stampOf, packed, textAt, textsAt, region, spanned, spanAt};
 ghost use Rattle.reading.specs.Tallies.{startTally, tallyAt, tallyRole, tallyConstraint, tallyAllowed, tallyCollection, tallyPattern, tallyLine, tallyMethod};
 use listings::records::Place;
 use text::texts;
 
+// Where each list begins. Covers, allows and marks are counted from 1, and the number at their place 0 means nothing.
 pub const ROLES: usize = 0;
 
 pub const METHODS: usize = 32;
@@ -39,12 +40,14 @@ pub struct Tally {
     pub constraints: usize,
 }
 
+// The same number, as an index.
 pub fn wide(x: u32) -> usize
     ensures { λ r. ⌜ r ≡ x ⌝ }
 {
     x as usize
 }
 
+// The same number.
 pub fn of_byte(b: u8) -> u32
     ensures { λ r. ⌜ r ≡ b ⌝ }
 {
@@ -87,6 +90,19 @@ pub fn text_at(s: &[u8], x: u32) -> &[u8]
     }
 }
 
+// The text that the number x spans: its place and its length; none where it would run past the end.
+pub fn span_at(s: &[u8], x: u32) -> &[u8]
+    ensures { λ r. ⌜ now r ≡ spanAt (now (s .entry)) x ⌝ }
+{
+    let from = wide(x / 65536);
+    let n = wide(x % 65536);
+    let to = from + n;
+    if s.len() < to {
+        return &s[0..0];
+    }
+    &s[from..to]
+}
+
 // Whether x names t, whose stamp is `key`. Another stamp than t's tells at once that it does not, unless t is empty.
 pub fn is_named(s: &[u8], x: u32, key: u32, t: &[u8]) -> bool
     requires { ⌜ key ≡ stampOf (now t) ⌝ }
@@ -124,8 +140,17 @@ pub fn put_text(s: &[u8], w: &mut [u32], i: usize, a: usize, e: usize)
     w[i] = a as u32 * 65536 + stamp(&s[a..e]);
 }
 
+// The number i becomes that of the text from a up to e.
+pub fn put_span(w: &mut [u32], i: usize, a: usize, e: usize)
+    requires { ⌜ (i < length (now w)) × ((a ≤ e) × (e ≤ 24576)) ⌝ }
+    ensures { λ _. ⌜ now (w .exit) ≡ set (now (w .entry)) i (spanned a e) ⌝ }
+{
+    w[i] = a as u32 * 65536 + (e - a) as u32;
+}
+
 // ---- sets of numbers below 32
 
+// The set x with i put in.
 pub fn with_member(x: u32, i: usize) -> u32
     requires { ⌜ i < 32 ⌝ }
     ensures { λ r. ⌜ r ≡ withMember x i ⌝ }
@@ -133,6 +158,7 @@ pub fn with_member(x: u32, i: usize) -> u32
     x | (1 << (i % 32) as u32)
 }
 
+// The set x with i taken out.
 pub fn without_member(x: u32, i: usize) -> u32
     requires { ⌜ i < 32 ⌝ }
     ensures { λ r. ⌜ r ≡ withoutMember x i ⌝ }
@@ -162,13 +188,13 @@ pub fn put_constraint(w: &mut [u32], n: usize, mark: u32)
     w[MARKS + 1 + n] = mark;
 }
 
-// The pattern that n others stand before: its text, and the numbers of its collection and of its constraint.
-pub fn put_pattern(s: &[u8], w: &mut [u32], n: usize, a: usize, e: usize, c: usize, k: usize)
+// The pattern that n others stand before: its text from a up to e, and the numbers of its collection and of its constraint.
+pub fn put_pattern(w: &mut [u32], n: usize, a: usize, e: usize, c: usize, k: usize)
     requires { ⌜ (320 + n < length (now w)) × ((n ≤ 128) × ((c ≤ 128) × (k ≤ 64))) ⌝ }
-    requires { ⌜ (a ≤ e) × ((e ≤ length (now s)) × (length (now s) ≤ 24576)) ⌝ }
-    ensures { λ _. ⌜ now (w .exit) ≡ set (set (set (now (w .entry)) (64 + n) (packed (now (s .entry)) a e)) (192 + n) c) (320 + n) k ⌝ }
+    requires { ⌜ (a ≤ e) × (e ≤ 24576) ⌝ }
+    ensures { λ _. ⌜ now (w .exit) ≡ set (set (set (now (w .entry)) (64 + n) (spanned a e)) (192 + n) c) (320 + n) k ⌝ }
 {
-    put_text(s, w, PATTERNS + n, a, e);
+    put_span(w, PATTERNS + n, a, e);
     w[OWNERS + n] = c as u32;
     w[PARENTS + n] = k as u32;
 }
@@ -221,6 +247,7 @@ pub fn uncover(w: &mut [u32], c: usize, i: usize)
 // ---- the counts after each record
 
 impl Tally {
+    // Behind the first line: nothing yet.
     pub fn start() -> Tally
         ensures { λ r. ⌜ r ≡ startTally ⌝ }
     {

@@ -147,13 +147,13 @@ pub fn scan(table: &[u8; 256], s: &[u8], at: usize) -> Scanned
     while i < s.len() {
         let b = s[i];
         if !bytes::is_text(table, b) {
-            if b == 9 {
+            if b == b'\t' {
                 return Scanned {
                     end: i,
                     clean: clean,
                 };
             }
-            if b == 10 {
+            if b == b'\n' {
                 return Scanned {
                     end: i,
                     clean: clean,

@@ -8,7 +8,7 @@ use Prim.Native.Nat.{ℕ}
 use native.Mathlib.Omega.{arith}
 use borrow.Author.Tests.{not-true}
 use Rattle.text.specs.Texts.{Text, bytes, same, member, run}
-use Rattle.listings.specs.Listings.{Collected, Constrained, Listing, Rule, covers, rulesOf}
+use Rattle.listings.specs.Listings.{Collected, Constrained, Listing, PatternLine, covers, patternLinesOf}
 use Rattle.text.proofs.Truths.{never, not-so, and-left, and-right}
 use Rattle.reading.proofs.Accepted.{Proper}
 use Rattle.deciding.specs.Matching.{best}
@@ -32,7 +32,7 @@ module _ (m n : Text) where
   unfolding covers
   covers-alike c a b d e = rw (a, b, d, e)
 
-  run-alike : (declared : List Text) (t : Text) (g : Gathered) (rs : List Rule) → ((r : Rule) → List·Memᴰ r rs → covers (r .collection) m ≡ covers (r .collection) n)
+  run-alike : (declared : List Text) (t : Text) (g : Gathered) (rs : List PatternLine) → ((r : PatternLine) → List·Memᴰ r rs → covers (r .collection) m ≡ covers (r .collection) n)
       → run (withRule declared t m) g rs ≡ run (withRule declared t n) g rs
   unfolding run withRule isFor
   run-alike declared t g [] h = refl
@@ -43,13 +43,13 @@ module _ (m n : Text) where
   module _ (l : Listing) (P : Proper l) (h : member m (l .methods) ≡ false) (k : member n (l .methods) ≡ false) where
     gathered-alike : (t : Text) → gathered l t m ≡ gathered l t n
     unfolding gathered
-    gathered-alike t = run-alike (l .declared) t nothingGathered (rulesOf l) (λ r i.
+    gathered-alike t = run-alike (l .declared) t nothingGathered (patternLinesOf l) (λ r i.
         covers-alike (r .collection) (off r i m h) (off r i n k) (left r i m h) (left r i n k))
       where
-        off : (r : Rule) → List·Memᴰ r (rulesOf l) → (x : Text) → member x (l .methods) ≡ false → member x (r .collection .methods) ≡ false
+        off : (r : PatternLine) → List·Memᴰ r (patternLinesOf l) → (x : Text) → member x (l .methods) ≡ false → member x (r .collection .methods) ≡ false
         off r i x e = not-so (member x (r .collection .methods)) (λ j. never (member x (l .methods)) (P .methods-listed r i x j) e)
 
-        left : (r : Rule) → List·Memᴰ r (rulesOf l) → (x : Text) → member x (l .methods) ≡ false → member x (r .collection .omitted) ≡ false
+        left : (r : PatternLine) → List·Memᴰ r (patternLinesOf l) → (x : Text) → member x (l .methods) ≡ false → member x (r .collection .omitted) ≡ false
         left r i x e = not-so (member x (r .collection .omitted)) (λ j. never (member x (l .methods)) (P .omitted-listed r i x j) e)
 
     pub unnamed-alike : (b : Option Text) (c : Caller) → answerTo (combinedAt l b m) c ≡ answerTo (combinedAt l b n) c
@@ -59,12 +59,12 @@ module _ (m n : Text) where
 
 -- ---- roles that a listing admits are named in it
 -- a rule that passes
-some-rule : (f : Rule → Bool) (rs : List Rule) → anyRule f rs ≡ true → (r : Rule) × List·Memᴰ r rs × (f r ≡ true)
+some-rule : (f : PatternLine → Bool) (rs : List PatternLine) → anyRule f rs ≡ true → (r : PatternLine) × List·Memᴰ r rs × (f r ≡ true)
 unfolding anyRule
 some-rule f [] h = absurd (never false h refl)
 some-rule f (r ∷ rs) h = go (f r) refl h (some-rule f rs)
   where
-    go : (b : Bool) → f r ≡ b → b || anyRule f rs ≡ true → (anyRule f rs ≡ true → (q : Rule) × List·Memᴰ q rs × (f q ≡ true)) → (q : Rule) × List·Memᴰ q (r ∷ rs) × (f q ≡ true)
+    go : (b : Bool) → f r ≡ b → b || anyRule f rs ≡ true → (anyRule f rs ≡ true → (q : PatternLine) × List·Memᴰ q rs × (f q ≡ true)) → (q : PatternLine) × List·Memᴰ q (r ∷ rs) × (f q ≡ true)
     go true e i ih = (r, List·Memᴰ·head refl, e)
     go false e i ih = let q = ih i in (q .0, List·Memᴰ·tail (q .1), q .2)
 
@@ -79,7 +79,7 @@ union-is l t m rs e = go (gathered l t m .closed) (not (gathered l t m .taken) |
     go false false h = cc
 
 module _ (l : Listing) (P : Proper l) where
-  admitted-named : (r : Rule) → List·Memᴰ r (rulesOf l) → (n : Text) → admits (l .declared) (r .constraint) n ≡ true → member n (l .roles) ≡ true
+  admitted-named : (r : PatternLine) → List·Memᴰ r (patternLinesOf l) → (n : Text) → admits (l .declared) (r .constraint) n ≡ true → member n (l .roles) ≡ true
   unfolding admits
   admitted-named r i n h = go (not (same n (bytes "*")) && member n (r .constraint .allowed)) refl h
     where
@@ -95,7 +95,7 @@ module _ (l : Listing) (P : Proper l) where
   union-named none m rs n e h = absurd (let z : _≡_ {A = ℕ} 0 1 = cc in omega arith)
   union-named (some t) m rs n e h =
       let u : member n (unionOf (l .declared) (taken t m (l .constraints))) ≡ true = rw (union-is l t m rs e) h in
-      let a : anyRule (passing t m (λ (k : Constrained). admits (l .declared) k n)) (rulesOf l) ≡ true =
+      let a : anyRule (passing t m (λ (k : Constrained). admits (l .declared) k n)) (patternLinesOf l) ≡ true =
       any-taken t m (λ (k : Constrained). admits (l .declared) k n) l ∙ sym (gathered-admitted l t m n) ∙ sym (gathered-union l t m n) ∙ u in
-      let r = some-rule (passing t m (λ (k : Constrained). admits (l .declared) k n)) (rulesOf l) a in
+      let r = some-rule (passing t m (λ (k : Constrained). admits (l .declared) k n)) (patternLinesOf l) a in
       admitted-named (r .0) (r .1) n (and-right (isFor t m (r .0)) (admits (l .declared) (r .0 .constraint) n) (r .2))

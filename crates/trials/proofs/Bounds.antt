@@ -231,15 +231,6 @@ module _ (new old : Listing) (N : Proper new) (O : Proper old) where
                 (λ n k. O .good-roles n (member-plain n (old .roles) .1 k)) (r .0) (r .1),
           )
 
-  -- there are 64 names at most
-  pub names-few : length (trialNames new old) ≤ 64
-  unfolding trialNames joined
-  names-few =
-      let a = N .few-roles in
-      let b = O .few-roles in
-      let f = further-length (new .roles) (old .roles) in
-      rw (length-append (new .roles) (further (new .roles) (old .roles))) (omega arith)
-
   -- so a request of such parts is one that a call can ask
   pub trial-good : (r : Request) → List·Memᴰ (r .path) (trialPaths new old) → List·Memᴰ (r .method) (trialMethods new old) → List·Memᴰ (r .caller) (trialCallers new old)
       → WellFormed r

@@ -13,7 +13,7 @@ use Rattle.text.specs.Bytes.{isText, isToken}
 use Rattle.listings.specs.Names.{madeOf, isMethodName}
 use Rattle.listings.specs.Refusals.{accepted, readingOf}
 use Rattle.listings.specs.Listings.{Listing, listingOf}
-use Rattle.reading.specs.Outcomes.{workSize}
+use Rattle.worktable.specs.Work.{workSize}
 use Rattle.text.proofs.Truths.{never, and-right}
 use Rattle.reading.proofs.Accepted.{Proper, accepted-proper}
 use Rattle.deciding.specs.Requests.{Caller, Request, isPath, isMethod}

@@ -116,7 +116,3 @@ module _ {B : Type 0} (f : Text → Option B) where
           → firstSome f (cond b (further us vs) (v ∷ further us vs)) ≡ elim (cond b none (f v)) [ none ↦ firstSome (λ (v : Text). cond (member v us) none (f v)) vs | some x ↦ some x ]
       go true ih = ih
       go false ih = ap (λ (o : Option B). elim (f v) [ none ↦ o | some b ↦ some b ]) ih
-
-  pub joined-by-lines : (us vs : List Text) → firstSome f (joined us vs) ≡ orElse (firstSome f us) (firstSome (λ (v : Text). cond (member v us) none (f v)) vs)
-  unfolding joined
-  joined-by-lines us vs = some-append f us (further us vs) ∙ ap (orElse (firstSome f us)) (further-by-lines us vs)

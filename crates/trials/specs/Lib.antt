@@ -1,4 +1,4 @@
--- Whether a new listing lets anyone do more than an old one, in document 01's words, on the definitions of `reading` and `deciding`. Read in this order:
+-- Whether a new listing lets anyone do more than an old one, in document 01's words, on the definitions of `listings`, `reading` and `deciding`. Read in this order:
 --   Fillers   the filler and the filler method
 --   Trials    the requests that are tried
 --   Verdicts  what wider means, and the verdict

@@ -2,7 +2,7 @@
 use mathlib.Core.Bool.{cond}
 use mathlib.Core.List.{List, [], _∷_, _++_, map, flatMap}
 use Rattle.text.specs.Texts.{Text, slash, dot, member}
-use Rattle.listings.specs.Patterns.{PatternKind, exact, prefix, extension, default, refused, kindOf}
+use Rattle.listings.specs.Patterns.{PatternKind, exact, prefix, extension, default, unpermitted, kindOf}
 use Rattle.listings.specs.Listings.{Listing, patternsOf}
 use Rattle.deciding.specs.Requests.{Caller, nobody, holder, Request}
 use Rattle.trials.specs.Fillers.{fillerOf, fillerMethodOf}
@@ -22,7 +22,7 @@ extensionIn (exact q) = []
 extensionIn (prefix p) = []
 extensionIn (extension e) = e ∷ []
 extensionIn default = []
-extensionIn refused = []
+extensionIn unpermitted = []
 
 -- "each extension pattern", in order
 unfoldable pub extensions : List Text → List Text
@@ -37,7 +37,7 @@ pathsOfKind filler es (exact q) = q ∷ []
 pathsOfKind filler es (prefix p) = below p filler ∷ map (dotted p filler) es
 pathsOfKind filler es (extension e) = dotted [] filler e ∷ []
 pathsOfKind filler es default = below [] filler ∷ []
-pathsOfKind filler es refused = []
+pathsOfKind filler es unpermitted = []
 
 -- for one pattern text after the other; "Last of all, `/`filler."
 unfoldable pub pathsFrom : Text → List Text → List Text → List Text

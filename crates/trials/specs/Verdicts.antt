@@ -9,7 +9,7 @@ use lib.ListN.{length}
 use Rattle.text.specs.Texts.{Text, first}
 use Rattle.listings.specs.Names.{isRoleName}
 use Rattle.listings.specs.Listings.{Listing}
-use Rattle.reading.specs.Outcomes.{workSize}
+use Rattle.worktable.specs.Work.{workSize}
 use Rattle.deciding.specs.Requests.{Caller, nobody, Request, isPath, isMethod, callerOf}
 use Rattle.deciding.specs.Decisions.{decide, isGrant}
 use Rattle.deciding.specs.Outcomes.{asked, isGranted, decisionOf}

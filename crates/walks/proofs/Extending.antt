@@ -7,9 +7,9 @@ use Prim.Native.Nat.{ℕ, zero, suc, _+_, _≤_, _<_}
 use native.Mathlib.Omega.{arith}
 use lib.ListN.{length, getD, drop}
 use Rattle.text.specs.Texts.{Text, bytes, slash, dot, has, startsWith}
-use Rattle.listings.specs.Patterns.{prefix, extension, kindOf}
+use Rattle.listings.specs.Patterns.{prefix, extension, kindOf, Shape}
 use Rattle.listings.specs.Listings.{Listing, patternsOf}
-use Rattle.listings.proofs.Plainly.{Shape, shape}
+use Rattle.listings.proofs.Plainly.{shape}
 use Rattle.reading.proofs.Accepted.{Proper}
 use Rattle.deciding.specs.Matching.{isUnder}
 use Rattle.deciding.specs.Strengths.{leading}

@@ -13,13 +13,13 @@ use mir.Val.{Fits}
 use borrow.Author.Needs.{fits-under}
 use Rattle.text.specs.Texts.{Text, bytes, slash, star, same, has, startsWith, endsWith}
 use Rattle.listings.specs.Names.{isPattern}
-use Rattle.listings.specs.Patterns.{PatternKind, exact, prefix, extension, default, refused, isExtension, kindOf, isPermitted}
+use Rattle.listings.specs.Patterns.{PatternKind, exact, prefix, extension, default, unpermitted, isExtension, kindOf, isPermitted, Shape}
 use Rattle.listings.specs.Listings.{Listing, listingOf, patternsOf}
 use Rattle.reading.specs.Holds.{Holds}
 use Rattle.reading.specs.declared.tables.Tally.{Tally}
 use Rattle.text.proofs.Truths.{never, and-left, and-right}
 use Rattle.text.proofs.Spans.{same-equal, same-self}
-use Rattle.listings.proofs.Plainly.{Shape, shape, starts-plain}
+use Rattle.listings.proofs.Plainly.{shape, starts-plain}
 use Rattle.reading.proofs.Accepted.{accepted-proper}
 use Rattle.deciding.specs.Requests.{Request}
 use Rattle.deciding.proofs.Strengths.{at-listed}
@@ -72,7 +72,7 @@ ended-prefix t p h =
         cond a (exact (bytes "/"))
         (cond b default
         (cond c (cond d (prefix (take (length t - 2) t)) (exact t))
-        (cond e (extension (drop 2 t)) refused)))
+        (cond e (extension (drop 2 t)) unpermitted)))
 
     go : (a b c d e : Bool) → same t [] ≡ a → same t (bytes "/") ≡ b → endsWith (bytes "/*") t ≡ d → (startsWith (bytes "*.") t && isExtension (drop 2 t)) ≡ e
         → isPermitted (kind a b c d e) ≡ true → kind a b c d e ≡ prefix (take (length t - 2) t)
@@ -130,7 +130,7 @@ module _ {s r : Text} {tn to : Tally} {wn wo : List ℕ} (t : Text) (m : List·M
       go (prefix q) k p = absurd (never (endsWith (bytes "/*") t) (prefix-ended t q k) (sym tested ∙ h))
       go (extension d) k p = sym (some-one (shownOn new old) (plainPath f (extension d)))
       go default k p = sym (some-one (shownOn new old) (plainPath f default))
-      go refused k p = absurd (never false p refl)
+      go unpermitted k p = absurd (never false p refl)
 
 -- ---- line j
 module _ (new old : Listing) (j n : ℕ) (u : Text) (counted : n ≡ length (patternsOf new)) where

@@ -13,13 +13,13 @@ use mir.Syntax.{w32, w64}
 use mir.Val.{Fits}
 use borrow.Author.Needs.{fits-under}
 use Rattle.text.specs.Texts.{Text, bytes, dot, star, startsWith, part}
-use Rattle.listings.specs.Patterns.{PatternKind, exact, prefix, extension, default, refused, isExtension, kindOf, isPermitted}
+use Rattle.listings.specs.Patterns.{PatternKind, exact, prefix, extension, default, unpermitted, isExtension, kindOf, isPermitted, Shape}
 use Rattle.listings.specs.Listings.{Listing, listingOf, patternsOf}
 use Rattle.reading.specs.Holds.{Holds}
 use Rattle.reading.specs.declared.tables.Tally.{Tally}
 use Rattle.text.proofs.Truths.{never}
 use Rattle.text.proofs.Spans.{from-on}
-use Rattle.listings.proofs.Plainly.{Shape, shape, starts-plain}
+use Rattle.listings.proofs.Plainly.{shape, starts-plain}
 use Rattle.reading.proofs.Accepted.{accepted-proper}
 use Rattle.deciding.proofs.Strengths.{at-listed}
 use Rattle.trials.specs.Trials.{below, dotted, extensionIn, extensions}
@@ -90,7 +90,7 @@ module _ (new old : Listing) (f t : Text) (line k : ℕ) (z : Bool) (tested : z 
   unfolding kindOf
   noted-starred after h N = let s = starts-plain (bytes "*.") t .0 (sym tested ∙ h) in go (s .0) (s .1)
     where
-      permitted : (r : Text) (b : Bool) → NotedToo new old f r line k before after → notedFor (cond b (extension r) refused) new old f line k before after (k + 1)
+      permitted : (r : Text) (b : Bool) → NotedToo new old f r line k before after → notedFor (cond b (extension r) unpermitted) new old f line k before after (k + 1)
       permitted r true N = (N, refl)
       permitted r false N = tt
 
@@ -108,7 +108,7 @@ module _ (new old : Listing) (f t : Text) (line k : ℕ) (z : Bool) (tested : z 
       go (prefix q) r = (refl, refl)
       go (extension e) r = absurd (never (startsWith (bytes "*.") t) (rw (r .0) (starts-itself (bytes "*.") e)) (sym tested ∙ h))
       go default r = (refl, refl)
-      go refused r = tt
+      go unpermitted r = tt
 
 -- ---- one line
 module _ (new old : Listing) (f u : Text) (j n k r : ℕ) (before after : List ℕ) (count : n ≡ length (patternsOf new)) (noted : NotedLine new old f u j k before after r) where
@@ -259,7 +259,7 @@ module _ (new old : Listing) (f : Text) (n j : ℕ) (table : List ℕ) (k : ℕ)
           let y = so-far .lines .few in
           (noted-one new old f es table after j k q e (so-far .noted) (omega arith) (line-left h) (h′ .0) (N .0) (N .1), omega arith)
       go default h′ p N = unchanged N
-      go refused h′ p N = absurd (never false p refl)
+      go unpermitted h′ p N = absurd (never false p refl)
 
   -- none is left
   pub noted-all : n ≤ j → ExtensionsOf new old f (extensions us) table k

@@ -8,7 +8,7 @@ use lib.ListN.{length, take}
 use Rattle.text.specs.Texts.{Text, bytes, slash, dot, same, startsWith, endsWith, part}
 use Rattle.text.specs.Bytes.{isText}
 use Rattle.listings.specs.Names.{madeOf, isPattern}
-use Rattle.listings.specs.Patterns.{exact, extension, refused, isExtension, kindOf, isPermitted}
+use Rattle.listings.specs.Patterns.{exact, extension, unpermitted, isExtension, kindOf, isPermitted}
 use Rattle.text.proofs.Truths.{never, and-left, and-right}
 use Rattle.text.proofs.Spans.{same-equal, from-on}
 use Rattle.listings.proofs.Namings.{filled-differs}
@@ -51,7 +51,7 @@ module _ (f t : Text) where
   unfolding kindOf
   path-starred r e p = rw e (go (isExtension r) (rw e at p))
     where
-      go : (b : Bool) → isPermitted (cond b (extension r) refused) ≡ true → plainPath f (cond b (extension r) refused) ≡ dotted [] f r
+      go : (b : Bool) → isPermitted (cond b (extension r) unpermitted) ≡ true → plainPath f (cond b (extension r) unpermitted) ≡ dotted [] f r
       go true h = refl
       go false h = absurd (never false h refl)
 
@@ -60,7 +60,7 @@ module _ (f t : Text) where
   unfolding kindOf
   path-exact a b d e p = rw (a, b, d, e) (go (startsWith (bytes "/") t) (rw (a, b, d, e) at p))
     where
-      go : (c : Bool) → isPermitted (cond c (exact t) refused) ≡ true → plainPath f (cond c (exact t) refused) ≡ t
+      go : (c : Bool) → isPermitted (cond c (exact t) unpermitted) ≡ true → plainPath f (cond c (exact t) unpermitted) ≡ t
       go true h = refl
       go false h = absurd (never false h refl)
 

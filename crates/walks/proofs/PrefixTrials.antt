@@ -9,12 +9,12 @@ use native.Mathlib.Omega.{arith}
 use lib.ListN.{length, take, getD, length-append}
 use lib.Seq.{length-take-le}
 use Rattle.text.specs.Texts.{Text, bytes}
-use Rattle.listings.specs.Patterns.{prefix}
+use Rattle.listings.specs.Patterns.{prefix, Shape}
 use Rattle.listings.specs.Listings.{Listing, listingOf, patternsOf}
 use Rattle.reading.specs.Holds.{Holds}
 use Rattle.reading.specs.declared.tables.Tally.{Tally}
 use Rattle.text.proofs.Truths.{and-left, and-right}
-use Rattle.listings.proofs.Plainly.{Shape, shape}
+use Rattle.listings.proofs.Plainly.{shape}
 use Rattle.reading.proofs.Accepted.{accepted-proper}
 use Rattle.deciding.specs.Requests.{Request}
 use Rattle.deciding.specs.Strengths.{leading}

@@ -9,9 +9,9 @@ use lib.ListN.{length}
 use lib.Dec.{ltb}
 use borrow.Author.Tests.{lt-ltb, le-ltb, leb-true, leb-false}
 use Rattle.text.specs.Texts.{Text, slash, dot, same, has, startsWith, run}
-use Rattle.listings.specs.Patterns.{PatternKind, exact, prefix, extension, default, refused, kindOf}
+use Rattle.listings.specs.Patterns.{PatternKind, exact, prefix, extension, default, unpermitted, kindOf, Shape}
 use Rattle.text.proofs.Truths.{never}
-use Rattle.listings.proofs.Plainly.{Shape, shape}
+use Rattle.listings.proofs.Plainly.{shape}
 use Rattle.deciding.specs.Matching.{isUnder, kindMatches}
 use Rattle.deciding.specs.Strengths.{kindStrength, strength, startLeading, leadBy, lead, leading}
 use Rattle.deciding.specs.declared.decisions.Leading.{Leading}
@@ -111,7 +111,7 @@ module _ (f : Text) (ts : List Text) (F : Filler f ts) (p e : Text) (root : isUn
           rw (plain-none d p f (F .no-slash) (F .no-dot), dotted-one d p f e (F .no-slash) no-slash no-dot, dotted-one d [] f e (F .no-slash) no-slash no-dot)
           (ended (same e d))
       go default r = low 1 (omega arith)
-      go refused r = low 0 (omega arith)
+      go unpermitted r = low 0 (omega arith)
 
   near : Near (leading ts (below p f)) (leading ts (dotted p f e)) (leading ts (dotted [] f e))
   unfolding leading

@@ -7,7 +7,7 @@ use mathlib.Core.Option.{Option, none, some}
 use lib.ListN.{length, getD, take}
 use Rattle.text.specs.Texts.{Text, bytes, star, dot, endsWith}
 use Rattle.listings.specs.Names.{isPattern}
-use Rattle.listings.specs.Patterns.{PatternKind, exact, prefix, extension, default, refused, kindOf}
+use Rattle.listings.specs.Patterns.{PatternKind, exact, prefix, extension, default, unpermitted, kindOf}
 use Rattle.listings.specs.Listings.{Listing, patternsOf}
 use Rattle.deciding.specs.Requests.{Request}
 use Rattle.trials.specs.Fillers.{fillerOf}
@@ -58,7 +58,7 @@ notedFor (extension e) new old filler line k before after r = NotedToo new old f
 notedFor (exact q) new old filler line k before after r = (after ≡ before) × (r ≡ k)
 notedFor (prefix p) new old filler line k before after r = (after ≡ before) × (r ≡ k)
 notedFor default new old filler line k before after r = (after ≡ before) × (r ≡ k)
-notedFor refused new old filler line k before after r = Unit {0}
+notedFor unpermitted new old filler line k before after r = Unit {0}
 
 abbrev pub NotedLine : Listing → Listing → Text → Text → ℕ → ℕ → List ℕ → List ℕ → ℕ → Type 0
 NotedLine new old filler t line k before after r = notedFor (kindOf t) new old filler line k before after r
@@ -101,7 +101,7 @@ plainPath filler (exact q) = q
 plainPath filler (prefix p) = []
 plainPath filler (extension e) = dotted [] filler e
 plainPath filler default = below [] filler
-plainPath filler refused = []
+plainPath filler unpermitted = []
 
 -- the request to show for a line
 abbrev pub lineShown : Listing → Listing → Text → Text → Option Request

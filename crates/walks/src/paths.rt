@@ -39,7 +39,7 @@ pub fn is_firm(x: Leading) -> bool
     3 <= most
 }
 
-// Whether both are.
+// Whether both hold.
 pub fn both(a: bool, b: bool) -> bool
     ensures { λ r. ⌜ r ≡ a && b ⌝ }
 {

@@ -1,4 +1,5 @@
 use borrow.Author.Needs.{needs}
+use Rattle.worktable.proofs.Lengths.{long-enough}
 use Rattle.reading.proofs.Loads.{read-short, read-long}
 use Rattle.reading.proofs.reader.budquarry_read.Statement.{statement}
 use Rattle.reading.proofs.reader.budquarry_read.Tie as tie
@@ -12,10 +13,10 @@ returns c = search (needs, read-short)
 
 -- src/reader.rt:232:5
 read-with-requires : tie.Need-read-with-requires
-read-with-requires c κs = search needs
+read-with-requires c κs = search (needs, long-enough)
 
 -- src/reader.rt:221:1
-same-length : tie.Need-same-length
+same-length : tie.Need-same-length-2
 same-length c = search needs
 
 -- src/reader.rt:221:1
@@ -23,4 +24,4 @@ returns-2 : tie.Need-returns-2
 returns-2 c = search (needs, read-long)
 
 pub budquarry-read-spec : {M : Type 1} → statement M
-budquarry-read-spec = tie.close (tie.spec returns read-with-requires same-length returns-2)
+budquarry-read-spec = tie.close (tie.spec (search needs) (search needs) returns read-with-requires same-length returns-2)

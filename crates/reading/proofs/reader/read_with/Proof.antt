@@ -5,14 +5,15 @@ use native.Mathlib.Omega.{arith}
 use Prim.Native.Nat.{ℕ, _≤_}
 use lib.ListN.{length, replicate, take, drop}
 use lib.Seq.{length-take-le, length-front, drop-at}
-use Rattle.reading.specs.Outcomes.{zeroed, reportOf}
+use Rattle.worktable.specs.Work.{zeroed}
+use Rattle.reading.specs.Outcomes.{reportOf}
 use Rattle.reading.proofs.reader.read_with.Statement.{statement}
 use Rattle.reading.proofs.reader.read_with.Tie as tie
 use Rattle.reading.proofs.reader.read_with.Reads as reads
 use Rattle.reading.proofs.reader.read_with.Lts as lts
 use Rattle.reading.proofs.reader.load.Reads as load-reads
 use Rattle.reading.proofs.reader.report.Reads as report-reads
-use Rattle.reading.proofs.reader.zero_first.Reads as zero-first-reads
+use Rattle.worktable.proofs.zero_first.Reads as zero-first-reads
 
 -- src/reader.rt:213:26
 slice-relend-prefix-load : tie.Need-slice-relend-prefix-load

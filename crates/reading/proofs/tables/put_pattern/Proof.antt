@@ -1,13 +1,13 @@
--- `tables::put_pattern` meets its contract: by what `put_text` ensures, and two writes.
+-- `tables::put_pattern` meets its contract: by what `put_span` ensures, and two writes.
 use borrow.Author.Needs.{needs}
 use Rattle.reading.proofs.tables.put_pattern.Statement.{statement}
 use Rattle.reading.proofs.tables.put_pattern.Tie as tie
 
-add-put-text : tie.Need-add-put-text
-add-put-text c = search needs
+add-put-span : tie.Need-add-put-span
+add-put-span c = search needs
 
-put-text-requires : tie.Need-put-text-requires
-put-text-requires c κs = search needs
+put-span-requires : tie.Need-put-span-requires
+put-span-requires c κs = search needs
 
 cast-w : tie.Need-cast-w
 cast-w c = search needs
@@ -43,8 +43,8 @@ pub put-pattern-spec : {M : Type 1} → statement M
 put-pattern-spec =
     tie.close
     (tie.spec
-    add-put-text
-    put-text-requires
+    add-put-span
+    put-span-requires
     cast-w
     add-w
     mul-w

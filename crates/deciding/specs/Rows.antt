@@ -5,8 +5,8 @@ use mathlib.Core.Bool.{Bool, true, false, not}
 use mathlib.Core.List.{List, [], _∷_}
 use mathlib.Core.Option.{Option, none, some}
 use Rattle.listings.specs.Refusals.{readingOf}
-use Rattle.reading.specs.Outcomes.{isShort}
-use Rattle.reading.specs.Orders.{report, row, listingRow, lastRow}
+use Rattle.worktable.specs.Work.{isShort}
+use Rattle.reading.specs.Rows.{report, row, listingRow, lastRow}
 use Rattle.listings.specs.declared.answers.Report.{Report}
 use Rattle.deciding.specs.Requests.{Caller, isPath, isMethod, callerOf}
 use Rattle.deciding.specs.Outcomes.{Asked}

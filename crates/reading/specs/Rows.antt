@@ -8,7 +8,7 @@ use mathlib.Core.Option.{Option, none, some}
 use Rattle.text.specs.Texts.{Text}
 use Rattle.listings.specs.Refusals.{Reading, accepted, refusal, numberOf, readingOf}
 use Rattle.listings.specs.Rules.{broken, isEarlier}
-use Rattle.reading.specs.Outcomes.{isShort}
+use Rattle.worktable.specs.Work.{isShort}
 use Rattle.listings.specs.declared.answers.Fault.{Fault}
 use Rattle.listings.specs.declared.answers.Report.{Report}
 
@@ -16,7 +16,7 @@ use Rattle.listings.specs.declared.answers.Report.{Report}
 abbrev pub report : ℕ → ℕ → ℕ → Report
 report number side line = record { number = number; side = side; line = line }
 
--- ---- the rows: none where a row is not given
+-- ---- the rows: none where a row is not given. The numbers are written out, so that the theorems check those of Refusals too.
 -- a row that is about no listing: "its side (0 for 1, 14, 11, 12, 13 ..) and its line (.. 0 for 1, 14, 2, 11, 12, 13)"
 abbrev pub row : ℕ → Bool → Option Report
 row number isGiven = cond isGiven (some (report number 0 0)) none

@@ -1,4 +1,4 @@
--- `reader::zero_first` meets its contract: after i turns the first i numbers are zero, and the rest as before.
+-- `zero_first` meets its contract: after i turns the first i numbers are zero, and the rest as before.
 -- Assumes nothing.
 use Prim.Native.Nat.{ℕ, _≤_, _<_, _-_}
 use mathlib.Core.Path.{_≡_, refl, ap, _∙_}
@@ -8,9 +8,9 @@ use native.Mathlib.Omega.{arith}
 use borrow.Author.Needs.{needs}
 use borrow.Author.Fill.{fill-none, fill-more}
 use lib.ListN.{length, set, length-set}
-use Rattle.reading.specs.Outcomes.{zeroed}
-use Rattle.reading.proofs.reader.zero_first.Statement.{statement}
-use Rattle.reading.proofs.reader.zero_first.Tie as tie
+use Rattle.worktable.specs.Work.{zeroed}
+use Rattle.worktable.proofs.zero_first.Statement.{statement}
+use Rattle.worktable.proofs.zero_first.Tie as tie
 
 abbrev Inv-loop : tie.InvT-loop
 Inv-loop w₀ n i₀ w i = (i ≤ n) × (length w ≡ length w₀) × (w ≡ zeroed i w₀)
