@@ -92,26 +92,35 @@ gateway: build/gateway
 check-gateway: build/gateway $(CHECKED) build/gateway_client build/budquarry
 	tests/gateway build/gateway $(CHECKED)
 
-# the second implementation by itself: with two jobs, while the archive is proved
+# The tests, in parts that two jobs run side by side: the second implementation by itself while the archive is proved, the rest behind it.
+check: check-second check-command check-calls check-here programs
+
 check-second: build/second_agree build/properties build/edges build/decide_edges
 	tests/stored
 	$(X86) run build/second_agree 0 1 large >build/second_agree.out || { cat build/second_agree.out; exit 1; }
 	$(X86) run build/properties 1 20000
 	$(X86) run build/properties $(SEED) 4000
-
-check: check-second build/budquarry build/agree build/typed build/stack
+check-command: build/budquarry
 	tests/command
 	tests/install
+check-calls: build/agree build/typed build/stack
 	$(X86) run build/typed
 	$(X86) run build/agree 1 100000
 	$(X86) run build/agree $(SEED) 20000
 	$(X86) run build/stack
+# alone, behind the others: it measures what it does under load
+check-here: check-command check-calls programs
 	if $(X86) need curl curl && $(X86) need ab apache2-utils && $(X86) library microhttpd microhttpd.h libmicrohttpd-dev; \
 		then $(MAKE) --no-print-directory check-gateway; else echo "gateway: not tried, for want of the packages above"; fi
-	$(MAKE) --no-print-directory programs
+
+# What the tests need of Debian, one after the other: two jobs at once would stand in each other's way.
+needs: build/second.o
+	$(X86) need pkg-config pkg-config
+	for package in curl:curl ab:apache2-utils; do $(X86) need $${package%:*} $${package#*:} || :; done
+	$(X86) library microhttpd microhttpd.h libmicrohttpd-dev || :
 
 # rt proves the program before it builds it.
-programs: build/compare_runs
+programs: build/compare_runs build/libbudquarry.a
 	rt check compare >build/compare.log 2>&1 || { tail -n 20 build/compare.log; exit 1; }
 	tests/programs
 
@@ -144,4 +153,4 @@ uninstall:
 clean:
 	rm -rf build
 
-.PHONY: all check check-second programs sharp gateway check-gateway soak bench growth install uninstall clean
+.PHONY: all check check-second check-command check-calls check-here needs programs sharp gateway check-gateway soak bench growth install uninstall clean
