@@ -13,8 +13,9 @@ use Rattle.text.specs.Bytes.{isText}
 use Rattle.reading.specs.Holds.{Holds}
 use Rattle.reading.specs.declared.tables.Tally.{Tally}
 use Rattle.reading.proofs.Accepted.{accepted-proper}
-use Rattle.deciding.specs.Requests.{Caller}
+use Rattle.decisions.specs.Requests.{Request, request}
 use Rattle.trials.specs.Answers.{lineOf, callerFields, answerOf}
+use Rattle.comparing.specs.Shown.{Showable}
 use Rattle.comparing.specs.Outcomes.{answered, comparisonFor, answerFor}
 use Rattle.grants.specs.Sides.{callerAt}
 use Rattle.fillers.specs.Writings.{spliced, written}
@@ -81,12 +82,20 @@ role-short s t w i H h =
     made-short isText 1 64 n (role-made n (accepted-proper s (H .accepts) .good-roles n (member-at (listingOf s .roles) i h)))
 
 -- the line with the role of caller c
-role-line : (ns : List Text) (c : ℕ) (name : Text) → (c ≡ 0 → ⊥) → name ≡ getD ns (c - 1) [] → (bytes "caller\trole\t" ++ name) ++ bytes "\n" ≡ lineOf (callerFields (callerAt ns c))
+role-line : (ns : List Text) (c : ℕ) (name : Text) → (c ≡ 0 → ⊥) → (c ≡ 1 → ⊥) → name ≡ getD ns (c - 2) [] → (bytes "caller\trole\t" ++ name) ++ bytes "\n" ≡ lineOf (callerFields (callerAt ns c))
 unfolding lineOf
-role-line ns zero name h e = absurd (h refl)
-role-line ns (suc n) name h e = let m : suc n - 1 ≡ n = omega arith in ap (λ (x : Text). (bytes "caller\trole\t" ++ x) ++ bytes "\n") (rw m at e)
+role-line ns zero name h k e = absurd (h refl)
+role-line ns (suc zero) name h k e = absurd (k refl)
+role-line ns (suc (suc n)) name h k e = let m : suc (suc n) - 2 ≡ n = omega arith in ap (λ (x : Text). (bytes "caller\trole\t" ++ x) ++ bytes "\n") (rw m at e)
 
-module _ (s : Text) (t : Tally) (w : List ℕ) (c : ℕ) (H : Holds s t w) (few : c ≤ length (listingOf s .roles)) (out : Text) (at : ℕ) (room : at + 80 ≤ length out) where
+-- a caller who is logged in has a role, whose number is two less
+pub role-from : (ns : List Text) (c : ℕ) → Showable ns c → (c ≡ 0 → ⊥) → 2 ≤ c
+role-from ns c S h = let k = S .other in omega arith
+
+pub role-near : (ns : List Text) (c : ℕ) → Showable ns c → (c ≡ 0 → ⊥) → c - 2 < length ns
+role-near ns c S h = let k = S .other in let w = S .within in omega arith
+
+module _ (s : Text) (t : Tally) (w : List ℕ) (c : ℕ) (H : Holds s t w) (few : Showable (listingOf s .roles) c) (out : Text) (at : ℕ) (room : at + 80 ≤ length out) where
   -- not logged in
   pub none-place : (r : ℕ) → c ≡ 0 → r ≡ at + 12 → r ≡ at + length (lineOf (callerFields (callerAt (listingOf s .roles) c)))
   unfolding lineOf
@@ -96,11 +105,11 @@ module _ (s : Text) (t : Tally) (w : List ℕ) (c : ℕ) (H : Holds s t w) (few 
   unfolding lineOf
   none-bytes out′ e p = rw e p
 
-  module _ (some : c ≡ 0 → ⊥) (name : Text) (named : name ≡ getD (listingOf s .roles) (c - 1) []) (out₁ : Text) (a : ℕ)
+  module _ (some : c ≡ 0 → ⊥) (name : Text) (named : name ≡ getD (listingOf s .roles) (c - 2) []) (out₁ : Text) (a : ℕ)
       (place : a ≡ at + 12) (put : out₁ ≡ spliced at (bytes "caller\trole\t") out) where
     -- the name has room
     short : length name ≤ 64
-    short = rw named (role-short s t w (c - 1) H (omega arith))
+    short = rw named (role-short s t w (c - 2) H (role-near (listingOf s .roles) c few some))
 
     pub name-room : length out₁ ≡ length out → a + length name ≤ length out₁
     name-room e = let l = short in omega arith
@@ -123,19 +132,21 @@ module _ (s : Text) (t : Tally) (w : List ℕ) (c : ℕ) (H : Holds s t w) (few 
       -- the line with a role
       pub role-place : (r : ℕ) → r ≡ b + 1 → r ≡ at + length (lineOf (callerFields (callerAt (listingOf s .roles) c)))
       role-place r p =
-          rw (← role-line (listingOf s .roles) c name some named)
+          rw (← role-line (listingOf s .roles) c name some (few .other) named)
           (place-behind out out₂ at b (bytes "caller\trole\t" ++ name) (bytes "\n") whole-room (behind .0) (behind .1) r p)
 
       pub role-bytes : (out₃ : Text) → out₃ ≡ spliced b (bytes "\n") out₂ → out₃ ≡ spliced at (lineOf (callerFields (callerAt (listingOf s .roles) c))) out
       role-bytes out₃ p =
-          rw (← role-line (listingOf s .roles) c name some named)
+          rw (← role-line (listingOf s .roles) c name some (few .other) named)
           (put-behind out out₂ at b (bytes "caller\trole\t" ++ name) (bytes "\n") whole-room (behind .0) (behind .1) out₃ p)
 
 -- it is short
-line-short : (s : Text) (t : Tally) (w : List ℕ) (c : ℕ) → Holds s t w → c ≤ length (listingOf s .roles) → length (lineOf (callerFields (callerAt (listingOf s .roles) c))) ≤ 80
+line-short : (s : Text) (t : Tally) (w : List ℕ) (c : ℕ) → Holds s t w → Showable (listingOf s .roles) c → length (lineOf (callerFields (callerAt (listingOf s .roles) c))) ≤ 80
 unfolding lineOf
-line-short s t w zero H h = omega arith
-line-short s t w (suc i) H h =
+line-short s t w zero H S = omega arith
+line-short s t w (suc zero) H S = absurd (S .other refl)
+line-short s t w (suc (suc i)) H S =
+    let h = S .within in
     let n : Text = getD (listingOf s .roles) i [] in
     let k = role-short s t w i H (omega arith) in
     let l = length-append n (newline ∷ []) in
@@ -155,10 +166,9 @@ head-length path method =
     omega arith
 
 -- with the caller's line it is the answer
-whole : (path method : Text) (c : Caller) → head path method ++ lineOf (callerFields c) ≡ answerOf (some (record { path = path; method = method; caller = c }))
+whole : (r : Request) → head (r .path) (r .method) ++ lineOf (callerFields (r .caller)) ≡ answerOf (some r)
 unfolding answerOf lineOf
-whole path method c =
-    simp append-assoc
+whole r = simp append-assoc
 
 module _ (out path method : Text) (long : 1024 ≤ length out) (short-path : length path ≤ 517) (short-method : length method ≤ 24)
     (out₁ out₂ out₃ out₄ out₅ : Text) (a b d e f : ℕ)
@@ -196,7 +206,7 @@ module _ (out path method : Text) (long : 1024 ≤ length out) (short-path : len
       let k = ap length (h .1) ∙ put-length out 0 (head path method) (omega arith) in
       omega arith
 
-  module _ (s : Text) (t : Tally) (w : List ℕ) (c : ℕ) (H : Holds s t w) (few : c ≤ length (listingOf s .roles)) (r : ℕ)
+  module _ (s : Text) (t : Tally) (w : List ℕ) (c : ℕ) (H : Holds s t w) (few : Showable (listingOf s .roles) c) (r : ℕ)
       (at₆ : r ≡ f + length (lineOf (callerFields (callerAt (listingOf s .roles) c)))) where
     -- the answer is short
     pub whole-short : r ≤ 1024
@@ -215,20 +225,20 @@ module _ (out path method : Text) (long : 1024 ≤ length out) (short-path : len
     line-room = let l = head-length path method in let k = line-short s t w c H few in omega arith
 
     pub request-handed : (x : Comparison) → x ≡ record { number = 0; side = 0; line = 0; length = r }
-        → x ≡ comparisonFor (answered (answerOf (some (record { path = path; method = method; caller = callerAt (listingOf s .roles) c }))))
+        → x ≡ comparisonFor (answered (answerOf (some (request path method (callerAt (listingOf s .roles) c)))))
     unfolding line-put
     request-handed x e₆ =
         e₆ ∙ ap (λ (n : ℕ). record { number = 0; side = 0; line = 0; length = n })
         (place-behind out out₅ 0 f (head path method) line-put line-room (head-put .0) (head-put .1) r at₆
-        ∙ nothing-before (head path method ++ line-put) ∙ ap length (whole path method (callerAt (listingOf s .roles) c)))
+        ∙ nothing-before (head path method ++ line-put) ∙ ap length (whole (request path method (callerAt (listingOf s .roles) c))))
 
     pub request-bytes : (out₆ : Text) → out₆ ≡ spliced f (lineOf (callerFields (callerAt (listingOf s .roles) c))) out₅
-        → out₆ ≡ answerFor (answered (answerOf (some (record { path = path; method = method; caller = callerAt (listingOf s .roles) c })))) out
+        → out₆ ≡ answerFor (answered (answerOf (some (request path method (callerAt (listingOf s .roles) c))))) out
     unfolding line-put
     request-bytes out₆ put₆ =
         put-behind out out₅ 0 f (head path method) line-put line-room (head-put .0) (head-put .1) out₆ put₆
-        ∙ ap (λ (y : Text). spliced 0 y out) (whole path method (callerAt (listingOf s .roles) c))
-        ∙ put-first out (answerOf (some (record { path = path; method = method; caller = callerAt (listingOf s .roles) c })))
+        ∙ ap (λ (y : Text). spliced 0 y out) (whole (request path method (callerAt (listingOf s .roles) c)))
+        ∙ put-first out (answerOf (some (request path method (callerAt (listingOf s .roles) c))))
 
 -- that shows none
 pub none-handed : (n : ℕ) (c : Comparison) → n ≡ 17 → c ≡ record { number = 0; side = 0; line = 0; length = n } → c ≡ comparisonFor (answered (answerOf none))

@@ -15,11 +15,7 @@ use Rattle.listings.specs.declared.answers.Fault.{Fault}
 use Rattle.listings.proofs.Exactly.{refused-exactly}
 use Rattle.reading.proofs.Firsts.{firstOf, first-exactly, one-refusal, side-tells}
 use Rattle.comparing.specs.Outcomes.{refusedFor, isSmall, comparedNew, comparedOld, compared, comparisonFor, comparisonOf}
-use Rattle.comparing.specs.Rows.{compareRows, reportIn}
-
--- buffer and table are large enough
-abbrev pub Roomy : Text → List ℕ → Type 0
-Roomy answer work = (isShort work ≡ false) × (isSmall answer ≡ false)
+use Rattle.comparing.specs.Rows.{compareRows, reportIn, Roomy}
 
 module _ (old new answer : Text) (work : List ℕ) where
   -- the rows of the new listing, the old one accepted

@@ -17,18 +17,21 @@ use Rattle.listings.specs.Names.{madeOf, isName, isRoleName, isMethodName}
 use Rattle.listings.specs.Listings.{Listing, listingOf}
 use Rattle.reading.specs.Holds.{Holds}
 use Rattle.reading.specs.declared.tables.Tally.{Tally}
-use Rattle.reading.proofs.Accepted.{Proper, accepted-proper}
+use Rattle.listings.specs.Propers.{Proper}
+use Rattle.reading.proofs.Accepted.{accepted-proper}
 use Rattle.listings.proofs.Plainly.{member-plain}
 use Rattle.text.proofs.Truths.{never, and-left, and-right}
 use Rattle.text.proofs.Indices.{index-member, index-here, member-at}
-use Rattle.deciding.specs.Requests.{Caller, nobody, holder, Request}
+use Rattle.decisions.specs.Requests.{Caller, nobody, holder, Request}
 use Rattle.deciding.proofs.Strengths.{at-listed}
 use Rattle.trials.specs.Answers.{answerOf}
 use Rattle.trials.specs.Fillers.{fillerMethodOf}
+use Rattle.comparing.specs.Shown.{Showable}
 use Rattle.comparing.specs.Outcomes.{answered, comparedBoth, comparisonFor, answerFor}
 use Rattle.grants.specs.Sides.{callerAt, PairsOf}
 use Rattle.trials.specs.Trials.{joined, trialPaths, trialMethods, trialCallers, trials}
-use Rattle.trials.specs.Verdicts.{widens, verdict, NobodyOrOne}
+use Rattle.trials.specs.Verdicts.{widens, verdict}
+use Rattle.trials.specs.Demands.{NobodyOrOne}
 use Rattle.walks.specs.Walks.{hitIn}
 use Rattle.comparing.specs.declared.answers.Comparison.{Comparison}
 use Rattle.walks.specs.declared.walking.Hit.{Hit}
@@ -158,14 +161,21 @@ module _ (new old : Listing) (N : Proper new) (O : Proper old) (buffer : Text) (
   unfolding shown
   hit-method = some-within (trialMethods new old) m (method-some (getD (trialMethods new old) m []) (method-good new old N O (getD (trialMethods new old) m []) (parts .method-in)) .0)
 
-  hit-caller : c ≤ length (new .roles)
+  hit-caller : Showable (new .roles) c
   unfolding shown isHolder firstHeld
   hit-caller = go c (caller-good new old N O (callerAt (new .roles) c) (parts .caller-in))
     where
-      go : (k : ℕ) → NobodyOrOne (callerAt (new .roles) k) → k ≤ length (new .roles)
-      go zero x = omega arith
-      go (suc i) (inl e) = absurd (never true refl (ap isHolder e))
-      go (suc i) (inr r) = let h = some-within (new .roles) i (rw (ap firstHeld (r .1)) (role-some (r .0) (r .2))) in omega arith
+      nothing : (n : Text) → [] ≡ n → 1 ≤ length n → ⊥
+      nothing n e h = let z : length n ≡ 0 = ap length (sym e) in omega arith
+
+      go : (k : ℕ) → NobodyOrOne (callerAt (new .roles) k) → Showable (new .roles) k
+      go zero x = record { within = omega arith; other = λ e. omega arith }
+      go (suc zero) (inl e) = absurd (never true refl (ap isHolder e))
+      go (suc zero) (inr r) = absurd (nothing (r .0) (ap firstHeld (r .1)) (role-some (r .0) (r .2)))
+      go (suc (suc i)) (inl e) = absurd (never true refl (ap isHolder e))
+      go (suc (suc i)) (inr r) =
+          let h = some-within (new .roles) i (rw (ap firstHeld (r .1)) (role-some (r .0) (r .2))) in
+          record { within = omega arith; other = λ e. omega arith }
 
 -- ---- as the code meets it
 module _ (new old : Text) (tn to : Tally) (wn wo : List ℕ) (N : Holds new tn wn) (O : Holds old to wo) (buffer : Text) (h : Hit)
@@ -215,5 +225,5 @@ module _ (new old : Text) (tn to : Tally) (wn wo : List ℕ) (N : Holds new tn w
       pub method-within : (pairs : List ℕ) (count : ℕ) → PairsOf (listingOf new) (listingOf old) pairs count → m < count
       method-within pairs count P = rw (P .all) (hit-method (listingOf new) (listingOf old) proper-new proper-old buffer room n m c told)
 
-      pub caller-within : (k : ℕ) → k ≡ c → k ≤ length (listingOf new .roles)
+      pub caller-within : (k : ℕ) → k ≡ c → Showable (listingOf new .roles) k
       caller-within k e = rw e (hit-caller (listingOf new) (listingOf old) proper-new proper-old buffer room n m c told)

@@ -12,12 +12,17 @@ use Rattle.text.specs.Texts.{Text, bytes}
 use Rattle.listings.specs.Refusals.{accepted, readingOf}
 use Rattle.listings.specs.Listings.{listingOf}
 use Rattle.worktable.specs.Work.{workSize}
-use Rattle.deciding.specs.Requests.{Request}
-use Rattle.trials.specs.Verdicts.{verdict, Shown, GrantsNoMore}
+use Rattle.decisions.specs.Requests.{Request}
+use Rattle.trials.specs.Verdicts.{verdict}
+use Rattle.trials.specs.Demands.{Shown}
 use Rattle.trials.specs.Answers.{lineOf, answerOf}
 use Rattle.comparing.specs.declared.answers.Comparison.{Comparison}
 use Rattle.comparing.specs.Outcomes.{Compared, refusedFor, answered, answerSize, compared, comparisonFor, answerFor, comparisonOf, answerAfter, CompareOutcome}
-use Rattle.trials.proofs.NoWider.{wider, no-wider-by-calls, no-wider-length, wider-length, answer-short}
+use Rattle.comparing.specs.Demands.{GrantsNoMore}
+use Rattle.reading.proofs.Accepted.{accepted-proper}
+use Rattle.trials.proofs.NoWider.{wider}
+use Rattle.trials.proofs.AnswersTell.{no-wider-length, wider-length, answer-fits}
+use Rattle.comparing.proofs.ByCalls.{no-wider-by-calls}
 
 -- ---- the two forms of the answer
 no-wider-text : answerOf none ≡ bytes "verdict\tno wider\n"
@@ -70,7 +75,7 @@ module _ (old new answer : Text) (work : List ℕ) (c : Comparison) (left : Text
     -- the buffer keeps its length, and the bytes past the answer
     pub rest-kept : (length left ≡ length answer) × (drop (c .length) left ≡ drop (c .length) answer)
     rest-kept =
-        let s = answer-short old new o n in
+        let s = answer-fits (listingOf new) (listingOf old) (accepted-proper new n) (accepted-proper old o) in
         let a = ap length left-is ∙ length-append text (drop (length text) answer) in
         let d = length-drop (length text) answer in
         (omega arith, rw (length-is, left-is) (drop-append-seam text (drop (length text) answer)))
@@ -105,4 +110,4 @@ module _ (old new answer : Text) (work : List ℕ) (c : Comparison) (left : Text
         go : (v : Option Request) → verdict (listingOf new) (listingOf old) ≡ v
             → (take (c .length) left ≡ bytes "verdict\tno wider\n") ⊎ ((r : Request) × (take (c .length) left ≡ answerOf (some r)) × Shown (listingOf new) (listingOf old) r)
         go none e = inl (written-is ∙ ap answerOf e ∙ no-wider-text)
-        go (some r) e = inr (r, written-is ∙ ap answerOf e, wider old new o n r e)
+        go (some r) e = inr (r, written-is ∙ ap answerOf e, wider (listingOf new) (listingOf old) (accepted-proper new n) (accepted-proper old o) r e)

@@ -1,6 +1,8 @@
 -- The plain form of the refusals of `budquarry_compare`: the rows of 01's table, each by itself, in 01's order.
 -- proofs/Exactly.antt shows that the call hands back exactly the first row that is given.
 use Prim.Native.Nat.{ℕ}
+use mathlib.Core.Path.{_≡_}
+use mathlib.Core.Bool.{false}
 use mathlib.Core.List.{List, [], _∷_}
 use mathlib.Core.Option.{Option}
 use Rattle.text.specs.Texts.{Text}
@@ -24,3 +26,7 @@ compareRows old new answer work =
 -- what is handed back, but for the length
 abbrev pub reportIn : Comparison → Report
 reportIn c = report (c .number) (c .side) (c .line)
+
+-- buffer and table are large enough
+abbrev pub Roomy : Text → List ℕ → Type 0
+Roomy answer work = (isShort work ≡ false) × (isSmall answer ≡ false)

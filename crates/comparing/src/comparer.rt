@@ -8,8 +8,10 @@ ghost use Rattle.listings.specs.Listings.{listingOf};
 ghost use Rattle.worktable.specs.Work.{zeroed};
 ghost use Rattle.listings.specs.Refusals.{readingOf};
 ghost use Rattle.reading.specs.Holds.{Holds, LoadOutcome};
+ghost use Rattle.decisions.specs.Requests.{request};
 ghost use Rattle.trials.specs.Answers.{lineOf, callerFields, answerOf};
 ghost use Rattle.trials.specs.Fillers.{firstNumber, fills, fillerOf, fillerMethodOf};
+ghost use Rattle.comparing.specs.Shown.{Showable};
 ghost use Rattle.comparing.specs.Outcomes.{answered, comparedBoth, comparedOld, comparisonFor, answerFor, CompareOutcome};
 ghost use Rattle.trials.specs.Trials.{trialMethods};
 ghost use Rattle.grants.specs.Sides.{PairsOf, Ready, callerAt};
@@ -47,7 +49,7 @@ pub fn answer_of(n: usize) -> Comparison
     }
 }
 
-// Puts the line of caller c, 0 not logged in, i + 1 with role i of new.
+// Puts the line of caller c, 0 not logged in, i + 2 with role i of new.
 pub fn put_caller(
     new: &[u8],
     wn: &[u32],
@@ -56,7 +58,7 @@ pub fn put_caller(
     at: usize,
     c: usize,
 ) -> usize
-    requires { ⌜ Holds (now new) tn (now wn) × ((at + 80 ≤ length (now answer)) × (c ≤ length (listingOf (now new) .roles))) ⌝ }
+    requires { ⌜ Holds (now new) tn (now wn) × ((at + 80 ≤ length (now answer)) × Showable (listingOf (now new) .roles) c) ⌝ }
     ensures place { λ r. ⌜ r ≡ at + length (lineOf (callerFields (callerAt (listingOf (now (new .entry)) .roles) c))) ⌝ }
     ensures bytes { λ _. ⌜ now (answer .exit) ≡ spliced at (lineOf (callerFields (callerAt (listingOf (now (new .entry)) .roles) c))) (now (answer .entry)) ⌝ }
 {
@@ -64,7 +66,7 @@ pub fn put_caller(
         return writing::put(answer, at, b"caller\tnone\n");
     }
     let a = writing::put(answer, at, b"caller\trole\t");
-    let b = writing::put(answer, a, held::role(new, wn, tn, c - 1));
+    let b = writing::put(answer, a, held::role(new, wn, tn, c - 2));
     writing::put(answer, b, b"\n")
 }
 
@@ -78,9 +80,9 @@ pub fn answer_wider(
     c: usize,
     answer: &mut [u8],
 ) -> Comparison
-    requires { ⌜ Holds (now new) tn (now wn) × (((length (now path) ≤ 517) × (length (now method) ≤ 24)) × ((1024 ≤ length (now answer)) × (c ≤ length (listingOf (now new) .roles)))) ⌝ }
-    ensures handed { λ r. ⌜ r ≡ comparisonFor (answered (answerOf (some (record { path = now (path .entry); method = now (method .entry); caller = callerAt (listingOf (now (new .entry)) .roles) c })))) ⌝ }
-    ensures bytes { λ _. ⌜ now (answer .exit) ≡ answerFor (answered (answerOf (some (record { path = now (path .entry); method = now (method .entry); caller = callerAt (listingOf (now (new .entry)) .roles) c })))) (now (answer .entry)) ⌝ }
+    requires { ⌜ Holds (now new) tn (now wn) × (((length (now path) ≤ 517) × (length (now method) ≤ 24)) × ((1024 ≤ length (now answer)) × Showable (listingOf (now new) .roles) c)) ⌝ }
+    ensures handed { λ r. ⌜ r ≡ comparisonFor (answered (answerOf (some (request (now (path .entry)) (now (method .entry)) (callerAt (listingOf (now (new .entry)) .roles) c))))) ⌝ }
+    ensures bytes { λ _. ⌜ now (answer .exit) ≡ answerFor (answered (answerOf (some (request (now (path .entry)) (now (method .entry)) (callerAt (listingOf (now (new .entry)) .roles) c))))) (now (answer .entry)) ⌝ }
 {
     let a = writing::put(answer, 0, b"verdict\twider\npath\t");
     let b = writing::put(answer, a, path);
@@ -115,9 +117,9 @@ pub fn answer_request(
     c: usize,
     answer: &mut [u8],
 ) -> Comparison
-    requires { ⌜ (Holds (now new) tn (now wn) × Holds (now old) to (now wo)) × (((PairsOf (listingOf (now new)) (listingOf (now old)) (now pairs) count × (now filler ≡ fillerMethodOf (listingOf (now new)) (listingOf (now old)))) × ((length (now path) ≤ 517) × (m < count))) × ((1024 ≤ length (now answer)) × (c ≤ length (listingOf (now new) .roles)))) ⌝ }
-    ensures handed { λ r. ⌜ r ≡ comparisonFor (answered (answerOf (some (record { path = now (path .entry); method = getD (trialMethods (listingOf (now (new .entry))) (listingOf (now (old .entry)))) m []; caller = callerAt (listingOf (now (new .entry)) .roles) c })))) ⌝ }
-    ensures bytes { λ _. ⌜ now (answer .exit) ≡ answerFor (answered (answerOf (some (record { path = now (path .entry); method = getD (trialMethods (listingOf (now (new .entry))) (listingOf (now (old .entry)))) m []; caller = callerAt (listingOf (now (new .entry)) .roles) c })))) (now (answer .entry)) ⌝ }
+    requires { ⌜ (Holds (now new) tn (now wn) × Holds (now old) to (now wo)) × (((PairsOf (listingOf (now new)) (listingOf (now old)) (now pairs) count × (now filler ≡ fillerMethodOf (listingOf (now new)) (listingOf (now old)))) × ((length (now path) ≤ 517) × (m < count))) × ((1024 ≤ length (now answer)) × Showable (listingOf (now new) .roles) c)) ⌝ }
+    ensures handed { λ r. ⌜ r ≡ comparisonFor (answered (answerOf (some (request (now (path .entry)) (getD (trialMethods (listingOf (now (new .entry))) (listingOf (now (old .entry)))) m []) (callerAt (listingOf (now (new .entry)) .roles) c))))) ⌝ }
+    ensures bytes { λ _. ⌜ now (answer .exit) ≡ answerFor (answered (answerOf (some (request (now (path .entry)) (getD (trialMethods (listingOf (now (new .entry))) (listingOf (now (old .entry)))) m []) (callerAt (listingOf (now (new .entry)) .roles) c))))) (now (answer .entry)) ⌝ }
 {
     let i = tables::wide(pairs[m]);
     if i < held::method_count(new, wn, tn) {

@@ -23,7 +23,8 @@ use Rattle.text.proofs.Truths.{or-right}
 use Rattle.reading.proofs.Accepted.{accepted-proper}
 use Rattle.deciding.specs.Holdings.{withRole, heldFrom, heldBy}
 use Rattle.deciding.specs.declared.callers.Held.{Held}
-use Rattle.deciding.specs.declared.callers.Held.the-variants.{Bad, Nobody, Roles}
+use Rattle.deciding.specs.declared.callers.Held.the-variants.{Bad, Good}
+use Rattle.deciding.specs.declared.callers.Who.the-variants.{Nobody, Roles}
 
 -- ---- a role put in
 module _ (s : Text) (t : Tally) (w : List ℕ) (H : Holds s t w) (x : ℕ) (n : Text) (i k : ℕ)
@@ -150,7 +151,7 @@ names-begin l s = record { due = refl }
 
 module _ (l : Listing) (s : Text) (k x at : ℕ) (v : Naming l s k x at) where
   -- no more names
-  pub names-end : length s ≤ at → Roles x ≡ heldFrom l 0 0 (linesOf s)
+  pub names-end : length s ≤ at → Good (Roles x) ≡ heldFrom l 0 0 (linesOf s)
   unfolding heldFrom linesOf
   names-end h = sym (v .due ∙ rw (drop-of-length-le s h))
 
@@ -205,7 +206,7 @@ login-named l [] login e h = absurd (omega arith)
 login-named l (x ∷ xs) login e h = rw e
 
 -- not logged in
-pub login-none : (l : Listing) (t : Text) (login : ℕ) → login ≡ 0 → length t ≤ 0 → Nobody ≡ heldBy l login t
+pub login-none : (l : Listing) (t : Text) (login : ℕ) → login ≡ 0 → length t ≤ 0 → Good Nobody ≡ heldBy l login t
 unfolding heldBy
 login-none l [] login e h = rw e
 login-none l (x ∷ xs) login e h = absurd (omega arith)

@@ -20,23 +20,25 @@ use Rattle.listings.specs.declared.answers.Fault.{Fault}
 use Rattle.reading.specs.declared.reader.Loaded.{Loaded}
 use Rattle.reading.specs.declared.reader.Loaded.the-variants.{Whole, Not}
 use Rattle.reading.specs.declared.tables.Tally.{Tally}
-use Rattle.reading.proofs.Accepted.{Proper, accepted-proper}
-use Rattle.deciding.specs.Requests.{Caller, isPath, callerOf}
-use Rattle.deciding.specs.Decisions.{answerNumber}
+use Rattle.listings.specs.Propers.{Proper}
+use Rattle.reading.proofs.Accepted.{accepted-proper}
+use Rattle.decisions.specs.Requests.{Caller, isPath, callerOf}
+use Rattle.decisions.specs.Decisions.{answerNumber}
 use Rattle.deciding.specs.Outcomes.{refused, answered, asked, decideCaller, decideRequest, decideListing, decisionOf, DecideOutcome}
 use Rattle.deciding.specs.Strengths.{leading}
 use Rattle.deciding.specs.Holdings.{heldBy}
 use Rattle.deciding.specs.Joinings.{joinedUpTo, joinedAnswer}
 use Rattle.deciding.specs.Deciders.{answerFor}
-use Rattle.deciding.specs.declared.answers.Answer.{Answer}
-use Rattle.deciding.specs.declared.answers.Answer.the-variants.{Open}
+use Rattle.decisions.specs.declared.answers.Answer.{Answer}
+use Rattle.decisions.specs.declared.answers.Answer.the-variants.{Open}
 use Rattle.deciding.specs.declared.answers.Decision.{Decision}
 use Rattle.deciding.specs.declared.callers.Held.{Held}
-use Rattle.deciding.specs.declared.callers.Held.the-variants.{Bad}
-use Rattle.deciding.specs.declared.decisions.Joined.{Joined}
-use Rattle.deciding.specs.declared.decisions.Leading.{Leading}
+use Rattle.deciding.specs.declared.callers.Held.the-variants.{Bad, Good}
+use Rattle.deciding.specs.declared.callers.Who.{Who}
+use Rattle.deciding.specs.declared.joining.Joined.{Joined}
+use Rattle.deciding.specs.declared.joining.Leading.{Leading}
 use Rattle.deciding.proofs.Strengths.{leads}
-use Rattle.deciding.proofs.Holders.{held-bad}
+use Rattle.deciding.proofs.Holders.{held-bad, held-good}
 use Rattle.deciding.proofs.Joins.{answer-for}
 use Rattle.text.proofs.Indices.{index-bound}
 
@@ -47,7 +49,7 @@ method-near s t w m i H e = omega (arith, index-bound m (listingOf s .methods), 
 
 module _ (l : Listing) (path : Text) (x : Leading) (led : x ≡ leading (patternsOf l) path) where
   -- no line leads
-  pub open-answer : (m : Text) (h : Held) → x .most ≡ 0 → Open ≡ answerFor l path m h
+  pub open-answer : (m : Text) (h : Who) → x .most ≡ 0 → Open ≡ answerFor l path m h
   unfolding answerFor
   open-answer m h e = rw (← led, e)
 
@@ -59,7 +61,7 @@ module _ (l : Listing) (path : Text) (x : Leading) (led : x ≡ leading (pattern
         rw led (leads (patternsOf l) path .leader p .0)
 
     -- what is joined for its text gives the answer
-    pub joined-answer : (m u : Text) (i : ℕ) (j : Joined) (h : Held) (a : Answer) → i ≡ indexOf m (l .methods) → u ≡ getD (patternsOf l) (x .at) []
+    pub joined-answer : (m u : Text) (i : ℕ) (j : Joined) (h : Who) (a : Answer) → i ≡ indexOf m (l .methods) → u ≡ getD (patternsOf l) (x .at) []
         → j ≡ joinedUpTo l u i (length (patternsOf l)) → a ≡ joinedAnswer j h → a ≡ answerFor l path m h
     unfolding answerFor
     joined-answer m u i j h a p q e f = rw (← led, ne-eqb (x .most) 0 some-lead, ← q, ← p, ← e) f
@@ -94,15 +96,16 @@ module _ (s path method names : Text) (login : ℕ) (p : Bool) (on-path : p ≡ 
         caller-refused b e = by-caller (rw (bad-none .0 b) e)
 
         -- nothing is: the answer
-        pub request-answered : (a : Answer) (n : ℕ) → (h ≡ Bad → ⊥) → a ≡ answerFor (listingOf s) path method h → n ≡ answerNumber a → d ≡ answered n
+        pub request-answered : (who : Who) (a : Answer) (n : ℕ) → h ≡ Good who → a ≡ answerFor (listingOf s) path method who → n ≡ answerNumber a → d ≡ answered n
             → d ≡ decideRequest (asked s path method login names)
-        request-answered a n b e f r = by-caller (go (callerOf login names) refl)
+        request-answered who a n g e f r = by-caller (go (callerOf login names) refl)
           where
             go : (o : Option Caller) → callerOf login names ≡ o → d ≡ decideCaller (asked s path method login names) o
-            go none c = absurd (b (bad-none .1 c))
+            go none c = let b : h ≡ Bad = bad-none .1 c in cc
             go (some k) c =
-                r ∙ ap answered (f ∙ ap answerNumber (e ∙ ap (answerFor (listingOf s) path method) on-caller
-                ∙ answer-for (listingOf s) proper path method login names k c))
+                r ∙ ap answered (f ∙ ap answerNumber (e
+                ∙ ap (answerFor (listingOf s) path method) (held-good (listingOf s) (proper .few-roles) (proper .roles-once) login names k who c (sym on-caller ∙ g))
+                ∙ answer-for (listingOf s) proper path method k))
 
 -- ---- a listing that is read
 module _ (s : Text) (l : Loaded) (w : List ℕ) (L : LoadOutcome s l w) where

@@ -1,6 +1,6 @@
 -- 01's worked requests 1 to 11, from the bytes of the listings to what is handed back, as one table that antt computes.
 use mathlib.Core.Path.{_≡_, refl}
-use mathlib.Core.List.{List, [], _∷_, _++_, map}
+use mathlib.Core.List.{List, [], _∷_, map}
 use Prim.Native.Nat.{ℕ, _≤_}
 use lib.ListN.{length}
 use borrow.Author.Tests.{le-ltb}
@@ -11,31 +11,12 @@ use Rattle.listings.specs.Records.{namesRole}
 use Rattle.listings.specs.Refusals.{readingOf}
 use Rattle.listings.specs.Listings.{listingOf}
 use Rattle.worktable.specs.Work.{workSize}
-use Rattle.deciding.specs.Requests.{isPath, callerOf}
-use Rattle.deciding.specs.Decisions.{decide, answerNumber}
+use Rattle.decisions.specs.Requests.{isPath, callerOf}
+use Rattle.decisions.specs.Decisions.{decide, answerNumber}
+use Rattle.decisions.specs.Worked.{listingL, undeclared}
 use Rattle.deciding.specs.Outcomes.{Asked, answered, decideListing, decisionOf}
-use Rattle.deciding.specs.declared.answers.Answer.the-variants.{Open, ByRole, Closed, LoginWanted, RoleLacking}
+use Rattle.decisions.specs.declared.answers.Answer.the-variants.{Open, ByRole, Closed, LoginWanted, RoleLacking}
 use Rattle.deciding.specs.declared.answers.Decision.{Decision}
-
--- "Listing L: roles adjuster, assessor, owner; `auth` without allow on `/*`, method DELETE; `auth` assessor on `/clock/*`, omit GET;
--- `auth` adjuster on `/clock/*`, method PUT; `open` on `*.csv`; `auth` `*` on `/clock/offset`, method GET."
-pub listingL : Text
-listingL =
-    bytes "constraints\t1\nrole\tadjuster\nrole\tassessor\nrole\towner\n"
-    ++ bytes "constraint\tauth\ncollection\npattern\t/*\nmethod\tDELETE\n"
-    ++ bytes "constraint\tauth\nallow\tassessor\ncollection\npattern\t/clock/*\nomit\tGET\n"
-    ++ bytes "constraint\tauth\nallow\tadjuster\ncollection\npattern\t/clock/*\nmethod\tPUT\n"
-    ++ bytes "constraint\topen\ncollection\npattern\t*.csv\n"
-    ++ bytes "constraint\tauth\nallow\t*\ncollection\npattern\t/clock/offset\nmethod\tGET\n"
-    ++ bytes "end\n"
-
--- "No role declared; `/a/*` allows `*` in one constraint and adjuster in another"
-pub undeclared : Text
-undeclared =
-    bytes "constraints\t1\n"
-    ++ bytes "constraint\tauth\nallow\t*\ncollection\npattern\t/a/*\n"
-    ++ bytes "constraint\tauth\nallow\tadjuster\ncollection\npattern\t/a/*\n"
-    ++ bytes "end\n"
 
 -- a caller who is not logged in asks
 abbrev unknown : Text → Text → Text → Asked

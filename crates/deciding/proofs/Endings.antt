@@ -1,32 +1,19 @@
 -- How a path ends: what follows the last `.` of its last segment, sought from the end.
 use mathlib.Core.Path.{_≡_, refl, sym, ap, _∙_}
-use mathlib.Core.Bool.{Bool, true, false, cond, _||_, or-true}
+use mathlib.Core.Bool.{Bool, true, false, cond, _||_}
 use mathlib.Core.List.{[], _∷_, _++_}
 use Prim.Native.Nat.{ℕ, suc, _-_, _≤_, _<_}
 use native.Mathlib.Omega.{arith}
 use lib.ListN.{length, take, drop, getD, take-append-drop}
 use lib.Seq.{drop-length, drop-cons}
 use lib.Dec.{eqb}
-use borrow.Author.Tests.{eq-eqb, ne-eqb}
+use borrow.Author.Tests.{ne-eqb}
 use Rattle.text.specs.Texts.{Text, slash, dot, has}
-use Rattle.text.proofs.Truths.{or-left, or-right}
-use Rattle.deciding.specs.Matching.{afterLastOr, afterLast, lastSegment}
+use Rattle.decisions.specs.Matching.{afterLastOr, afterLast, lastSegment}
+use Rattle.decisions.proofs.Lasts.{last-none, last-behind, has-middle}
 use Rattle.deciding.specs.Strengths.{Ends}
 
 -- ---- what follows the last b
--- where a text has none, nothing does
-pub last-none : (b : ℕ) (keep t : Text) → has b t ≡ false → afterLastOr b keep t ≡ keep
-unfolding has afterLastOr
-last-none b keep [] h = refl
-last-none b keep (x ∷ xs) h =
-    ap (λ (c : Bool). afterLastOr b (cond c xs keep) xs) (or-left (eqb b x) (has b xs) h) ∙ last-none b keep xs (or-right (eqb b x) (has b xs) h)
-
--- a text without one does that stands behind one
-pub last-behind : (b : ℕ) (keep s t : Text) → has b t ≡ false → afterLastOr b keep (s ++ b ∷ t) ≡ t
-unfolding afterLastOr
-last-behind b keep [] t h = ap (λ (c : Bool). afterLastOr b (cond c t keep) t) (eq-eqb b b refl) ∙ last-none b t t h
-last-behind b keep (x ∷ xs) t h = last-behind b (cond (eqb b x) (xs ++ b ∷ t) keep) xs t h
-
 -- where all ends with a text without one, what follows the last does too
 last-ends : (b : ℕ) (keep s t : Text) → has b t ≡ false → (u : Text) × (afterLastOr b (keep ++ t) (s ++ t) ≡ u ++ t)
 unfolding afterLastOr
@@ -39,12 +26,6 @@ last-ends b keep (x ∷ xs) t h =
     go false = refl
 
 -- ---- a byte in a text
--- in its middle
-pub has-middle : (b : ℕ) (s t : Text) → has b (s ++ b ∷ t) ≡ true
-unfolding has
-has-middle b [] t = ap (λ (c : Bool). c || has b t) (eq-eqb b b refl)
-has-middle b (x ∷ xs) t = ap (λ (c : Bool). eqb b x || c) (has-middle b xs t) ∙ or-true (eqb b x)
-
 -- another byte before it does not matter
 has-other : (b x : ℕ) (t : Text) → (x ≡ b → ⊥) → has b (x ∷ t) ≡ has b t
 unfolding has

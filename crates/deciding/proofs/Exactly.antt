@@ -13,7 +13,7 @@ use Rattle.listings.specs.declared.answers.Report.{Report}
 use Rattle.listings.specs.declared.answers.Fault.{Fault}
 use Rattle.listings.proofs.Exactly.{refused-exactly}
 use Rattle.reading.proofs.Firsts.{firstOf, first-exactly, one-refusal, side-tells}
-use Rattle.deciding.specs.Requests.{Caller, isPath, isMethod, callerOf}
+use Rattle.decisions.specs.Requests.{Caller, isPath, isMethod, callerOf}
 use Rattle.deciding.specs.Outcomes.{refused, Asked, decideCaller, decideListing, decisionOf}
 use Rattle.deciding.specs.Rows.{isBad, decideRows, reportIn}
 

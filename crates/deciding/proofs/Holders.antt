@@ -1,6 +1,6 @@
 -- The caller as the listing sees it is the caller that Requests reads: bad where that has none, and else with the listing's roles among the names.
 use mathlib.Core.Path.{_≡_, refl, sym, ap, _∙_}
-use mathlib.Core.Bool.{Bool, true, false, not, cond, _&&_, _||_, or-true, or-false, and-false, and-or-distrib-left}
+use mathlib.Core.Bool.{Bool, true, false, not, cond, _&&_, _||_, or-false, and-false, and-or-distrib-left}
 use mathlib.Core.List.{List, [], _∷_, _++_, append-assoc, append-nil}
 use mathlib.Core.Logic.{_↔_}
 use mathlib.Core.Option.{Option, none, some}
@@ -12,48 +12,32 @@ use lib.ListN.{length, getD}
 use lib.Dec.{eqb, leb, ltb}
 use lib.Bits.{bitAnd}
 use borrow.Author.Tests.{ltb-true, lt-ltb, le-ltb, le-leb, lt-leb, eq-eqb, ne-eqb}
-use Rattle.text.specs.Texts.{Text, same, member, indexOf}
+use Rattle.text.specs.Texts.{Text, same, member, indexOf, Once}
 use Rattle.text.specs.Lines.{Line, linesOf}
 use Rattle.listings.specs.Listings.{Listing}
 use Rattle.reading.specs.Sets.{setOf, digit}
 use Rattle.text.proofs.Truths.{never, not-so, and-left, and-right}
-use Rattle.text.proofs.Spans.{same-equal, same-self}
-use Rattle.text.proofs.Indices.{index-member, Once, index-here, member-at, stands}
-use Rattle.listings.proofs.Plainly.{member-append}
+use Rattle.text.proofs.Spans.{same-equal}
+use Rattle.text.proofs.Indices.{index-member, index-here, member-at, stands}
+use Rattle.listings.proofs.Plainly.{member-append, member-plain}
 use Rattle.reading.proofs.Digits.{set-same, set-and, set-none, set-with, digit-set}
-use Rattle.deciding.specs.Requests.{Caller, nobody, holder, isHeld, allHeld, mostNames, namesIn, callerOf}
-use Rattle.deciding.specs.Gatherings.{anyName}
+use Rattle.decisions.specs.Requests.{Caller, nobody, holder, isHeld, allHeld, mostNames, namesIn, callerOf}
+use Rattle.decisions.specs.Combining.{anyOf}
+use Rattle.decisions.proofs.Anys.{any-plain}
 use Rattle.deciding.specs.Holdings.{heldSet, withRole, heldFrom, heldBy}
 use Rattle.deciding.specs.declared.callers.Held.{Held}
-use Rattle.deciding.specs.declared.callers.Held.the-variants.{Bad, Nobody, Roles}
-
--- ---- names
--- where a name among others passes a test, one of them does
-any-here : (f : Text → Bool) (n : Text) (ns : List Text) → member n ns ≡ true → f n ≡ true → anyName f ns ≡ true
-unfolding member anyName
-any-here f n [] i e = i
-any-here f n (m ∷ ms) i e = go (same m n) refl i (any-here f n ms)
-  where
-    go : (b : Bool) → same m n ≡ b → b || member n ms ≡ true → (member n ms ≡ true → f n ≡ true → anyName f ms ≡ true) → f m || anyName f ms ≡ true
-    go true k j again = rw (same-equal m n k, e)
-    go false k j again = rw (again j e) (or-true (f m))
-
--- and where one does, there is such a name
-any-some : (f : Text → Bool) (ns : List Text) → anyName f ns ≡ true → (n : Text) × (member n ns ≡ true) × (f n ≡ true)
-unfolding member anyName
-any-some f [] e = absurd (never false e refl)
-any-some f (m ∷ ms) e = go (f m) refl e (any-some f ms)
-  where
-    go : (b : Bool) → f m ≡ b → b || anyName f ms ≡ true → (anyName f ms ≡ true → (n : Text) × (member n ms ≡ true) × (f n ≡ true))
-        → (n : Text) × (member n (m ∷ ms) ≡ true) × (f n ≡ true)
-    go true k j again = (m, rw (same-self m), k)
-    go false k j again = let r = again j in (r .0, rw (r .1) (or-true (same m (r .0))), r .2)
+use Rattle.deciding.specs.declared.callers.Held.the-variants.{Bad, Good}
+use Rattle.deciding.specs.declared.callers.Who.{Who}
+use Rattle.deciding.specs.declared.callers.Who.the-variants.{Nobody, Roles}
 
 -- ---- the caller as the listing sees it
+abbrev pub whoAs : Listing → Caller → Who
+whoAs l nobody = Nobody
+whoAs l (holder ns) = Roles (heldSet l ns)
+
 abbrev pub heldAs : Listing → Option Caller → Held
 heldAs l none = Bad
-heldAs l (some nobody) = Nobody
-heldAs l (some (holder ns)) = Roles (heldSet l ns)
+heldAs l (some c) = Good (whoAs l c)
 
 -- the listing has a role i, and it is this one
 abbrev listed : Listing → ℕ → Bool
@@ -76,28 +60,31 @@ module _ (l : Listing) (few : length (l .roles) ≤ 32) where
     shared : ℕ → Bool
     shared i = holds l ns i && (listed l i && f (role l i))
 
-    shared-none : anyName f ns ≡ false → (i : ℕ) → shared i ≡ false
+    shared-none : anyOf f ns ≡ false → (i : ℕ) → shared i ≡ false
     unfolding shared
     shared-none e i =
         not-so (shared i) (λ t.
-        never (anyName f ns) (any-here f (role l i) ns
-        (and-right (listed l i) _ (and-left (holds l ns i) _ t)) (and-right (listed l i) _ (and-right (holds l ns i) _ t))) e)
+        never (anyOf f ns) (any-plain f ns .1 (
+          role l i,
+          member-plain (role l i) ns .0 (and-right (listed l i) _ (and-left (holds l ns i) _ t)),
+          and-right (listed l i) _ (and-right (holds l ns i) _ t),
+        )) e)
 
-    shared-some : anyName f ns ≡ true → setOf 32 shared ≡ 0 → ⊥
+    shared-some : anyOf f ns ≡ true → setOf 32 shared ≡ 0 → ⊥
     unfolding shared
     shared-some e z =
-        let r = any-some f ns e in
+        let r = any-plain f ns .0 e in
         let i : ℕ = indexOf (r .0) (l .roles) in
         let h : i < length (l .roles) = ltb-true _ _ (index-member (r .0) (l .roles) ∙ named (r .0) (r .2)) in
-        let d : digit i (setOf 32 shared) ≡ 1 = digit-set 32 shared i (omega arith) ∙ rw (lt-ltb _ _ h, index-here (r .0) (l .roles) h, r .1, r .2) in
+        let d : digit i (setOf 32 shared) ≡ 1 = digit-set 32 shared i (omega arith) ∙ rw (lt-ltb _ _ h, index-here (r .0) (l .roles) h, member-plain (r .0) ns .1 (r .1), r .2) in
         let y : 0 / 2 ^ i % 2 ≡ 1 = rw z at d in
         omega (arith, zero-div (2 ^ i))
 
-    pub held-meets : eqb (bitAnd (heldSet l ns) (setOf 32 (λ i. ltb i (length (l .roles)) && f (getD (l .roles) i [])))) 0 ≡ not (anyName f ns)
+    pub held-meets : eqb (bitAnd (heldSet l ns) (setOf 32 (λ i. ltb i (length (l .roles)) && f (getD (l .roles) i [])))) 0 ≡ not (anyOf f ns)
     unfolding shared
-    held-meets = rw (held-set l ns, set-and 32 (holds l ns) (λ i. listed l i && f (role l i))) (go (anyName f ns) refl)
+    held-meets = rw (held-set l ns, set-and 32 (holds l ns) (λ i. listed l i && f (role l i))) (go (anyOf f ns) refl)
       where
-        go : (b : Bool) → anyName f ns ≡ b → eqb (setOf 32 shared) 0 ≡ not b
+        go : (b : Bool) → anyOf f ns ≡ b → eqb (setOf 32 shared) 0 ≡ not b
         go true e = ne-eqb (setOf 32 shared) 0 (shared-some e)
         go false e = eq-eqb (setOf 32 shared) 0 (set-none 32 shared (shared-none e))
 
@@ -138,7 +125,7 @@ module _ (l : Listing) (few : length (l .roles) ≤ 32) where
 
     -- the lines behind k names: all have to be names, and not too many
     abbrev Behind : ℕ → List Text → List Line → Type 0
-    Behind k ns ls = heldFrom l k (heldSet l ns) ls ≡ cond (allHeld ls && leb (k + length ls) mostNames) (Roles (heldSet l (ns ++ namesIn ls))) Bad
+    Behind k ns ls = heldFrom l k (heldSet l ns) ls ≡ cond (allHeld ls && leb (k + length ls) mostNames) (Good (Roles (heldSet l (ns ++ namesIn ls)))) Bad
 
     held-lines : (k : ℕ) (ns : List Text) (ls : List Line) → k ≤ 32 → Behind k ns ls
     unfolding heldFrom allHeld
@@ -147,7 +134,7 @@ module _ (l : Listing) (few : length (l .roles) ≤ 32) where
       where
         go : (b : Bool) → Dec (k < 32) → (suc k ≤ 32 → Behind (suc k) (ns ++ n .bytes ∷ []) ls)
             → cond b (cond (leb mostNames k) Bad (heldFrom l (suc k) (withRole l (heldSet l ns) (n .bytes)) ls)) Bad
-            ≡ cond ((b && allHeld ls) && leb (k + suc (length ls)) mostNames) (Roles (heldSet l (ns ++ n .bytes ∷ namesIn ls))) Bad
+            ≡ cond ((b && allHeld ls) && leb (k + suc (length ls)) mostNames) (Good (Roles (heldSet l (ns ++ n .bytes ∷ namesIn ls)))) Bad
         go false d again = refl
         go true (yes j) again =
             let e : k + suc (length ls) ≡ suc k + length ls = omega arith in
@@ -164,7 +151,7 @@ module _ (l : Listing) (few : length (l .roles) ≤ 32) where
         ∙ rw zero-add at (held-lines 0 [] (linesOf t) (omega arith))
         ∙ go (allHeld (linesOf t) && leb (length (linesOf t)) mostNames)
       where
-        go : (b : Bool) → cond b (Roles (heldSet l (namesIn (linesOf t)))) Bad ≡ heldAs l (cond b (some (holder (namesIn (linesOf t)))) none)
+        go : (b : Bool) → cond b (Good (Roles (heldSet l (namesIn (linesOf t))))) Bad ≡ heldAs l (cond b (some (holder (namesIn (linesOf t)))) none)
         go true = refl
         go false = refl
     held-caller (suc (suc n)) t = refl
@@ -175,5 +162,8 @@ module _ (l : Listing) (few : length (l .roles) ≤ 32) where
       where
         go : (c : Option Caller) → (heldAs l c ≡ Bad) ↔ (c ≡ none)
         go none = (λ e. refl, λ e. refl)
-        go (some nobody) = (λ e. cc, λ e. cc)
-        go (some (holder ns)) = (λ e. cc, λ e. cc)
+        go (some c) = (λ e. cc, λ e. cc)
+
+    -- and else the caller that it reads
+    pub held-good : (login : ℕ) (names : Text) (c : Caller) (w : Who) → callerOf login names ≡ some c → heldBy l login names ≡ Good w → w ≡ whoAs l c
+    held-good login names c w e h = let g : Good w ≡ Good (whoAs l c) = sym h ∙ held-caller login names ∙ ap (heldAs l) e in cc

@@ -1,10 +1,7 @@
--- The laws and the theorems of deciding:
---   Bests      matching in plain words, and the best match
---   Extensions an extension in plain words
+-- The laws and the theorems of the call:
 --   Promises   what the customer is promised
 --   Exactly    when each refusal is given
 --   Cases      01's worked requests 1 to 11
---   Takings    what a loop over the `pattern` lines gathers
 --   Strengths  the best match by a number for each pattern text
 --   Shorts     a listing's patterns are few and short
 --   Endings    the extension of a path, as the code seeks it
@@ -14,12 +11,9 @@
 --   Turns      the constraints joined line by line, as the code meets them
 --   Joins      what the code joins gives Decisions' answer
 --   Calls      what the functions of the whole call hand to each other
-pub mod Bests
-pub mod Extensions
 pub mod Promises
 pub mod Exactly
 pub mod Cases
-pub mod Takings
 pub mod Strengths
 pub mod Shorts
 pub mod Endings

@@ -16,12 +16,12 @@ use Rattle.reading.specs.declared.tables.Tally.{Tally}
 use Rattle.text.proofs.Truths.{never, not-so}
 use Rattle.text.proofs.Spans.{ends-short, from-on}
 use Rattle.listings.proofs.Namings.{starts-long}
-use Rattle.deciding.specs.Matching.{afterLast, lastSegment, hasExtension, isUnder, kindMatches}
+use Rattle.decisions.specs.Matching.{afterLast, lastSegment, hasExtension, isUnder, kindMatches}
 use Rattle.deciding.specs.Strengths.{Ends, kindStrength, strength, rootedStrength, starredStrength, startLeading, lead, leading}
-use Rattle.deciding.specs.declared.decisions.Leading.{Leading}
+use Rattle.deciding.specs.declared.joining.Leading.{Leading}
 use Rattle.deciding.specs.declared.matching.Ending.{Ending}
 use Rattle.deciding.proofs.Strengths.{lead-past, lead-takes}
-use Rattle.deciding.proofs.Takings.{run-step}
+use Rattle.text.proofs.Indices.{run-step}
 use Rattle.deciding.proofs.Shorts.{pattern-few, pattern-short}
 
 -- ---- P or below P

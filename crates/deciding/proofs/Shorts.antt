@@ -8,7 +8,8 @@ use Rattle.text.specs.Texts.{Text}
 use Rattle.listings.specs.Listings.{listingOf, patternsOf}
 use Rattle.reading.specs.Holds.{Holds}
 use Rattle.reading.specs.declared.tables.Tally.{Tally}
-use Rattle.reading.proofs.Accepted.{Proper, accepted-proper}
+use Rattle.listings.specs.Propers.{Proper}
+use Rattle.reading.proofs.Accepted.{accepted-proper}
 use Rattle.deciding.proofs.Strengths.{at-listed}
 
 module _ (s : Text) (t : Tally) (w : List ℕ) (H : Holds s t w) where

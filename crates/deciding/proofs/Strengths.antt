@@ -14,10 +14,10 @@ use Rattle.text.specs.Texts.{Text, bytes, run}
 use Rattle.listings.specs.Patterns.{PatternKind, exact, prefix, extension, default, unpermitted, kindOf, Shape}
 use Rattle.text.proofs.Truths.{never}
 use Rattle.listings.proofs.Plainly.{shape}
-use Rattle.deciding.specs.Matching.{kindMatches, matches, rank, size, isBetter, best}
+use Rattle.decisions.specs.Matching.{kindMatches, matches, rank, size, isBetter, best}
 use Rattle.deciding.specs.Strengths.{kindStrength, strength, startLeading, lead, leading, bestLine}
-use Rattle.deciding.specs.declared.decisions.Leading.{Leading}
-use Rattle.deciding.proofs.Bests.{better-plain, worse-plain, best-is, best-exactly}
+use Rattle.deciding.specs.declared.joining.Leading.{Leading}
+use Rattle.decisions.proofs.Bests.{better-plain, worse-plain, best-is, best-exactly}
 
 -- ---- the better kind has the greater number
 -- a kind's number by its rank and its size
@@ -54,7 +54,7 @@ module _ (a b s c d r : ℕ) (v : Weighs a b s) (w : Weighs c d r) where
       go false e = sym (le-ltb s r (not-less (worse-plain a b c d e)))
 
 -- of two pattern texts the better is the one with the greater number
-pub kind-strength : (t u : Text) → length t ≤ 255 → length u ≤ 255 → isBetter (kindOf t) (kindOf u) ≡ ltb (kindStrength (kindOf t)) (kindStrength (kindOf u))
+pub kind-strength : (t u : Text) → length t ≤ 255 → length u ≤ 255 → isBetter (kindOf u) (kindOf t) ≡ ltb (kindStrength (kindOf t)) (kindStrength (kindOf u))
 kind-strength t u h k =
     compared (rank (kindOf t)) (size (kindOf t)) (kindStrength (kindOf t)) (rank (kindOf u)) (size (kindOf u)) (kindStrength (kindOf u))
     (weighs t h) (weighs u k)
@@ -70,7 +70,7 @@ strength-none t path e = rw e
 
 -- so of two that match the better is the stronger
 pub strength-better : (t u path : Text) → length t ≤ 255 → length u ≤ 255 → matches t path ≡ true → matches u path ≡ true
-    → isBetter (kindOf t) (kindOf u) ≡ ltb (strength t path) (strength u path)
+    → isBetter (kindOf u) (kindOf t) ≡ ltb (strength t path) (strength u path)
 strength-better t u path h k p q = rw (strength-match t path p, strength-match u path q) (kind-strength t u h k)
 
 -- a text that matches has a number above 0

@@ -16,10 +16,10 @@ use Rattle.reading.specs.Views.{coverAt, accessAt}
 use Rattle.reading.specs.declared.held.Access.{Access}
 use Rattle.reading.specs.declared.held.Access.the-variants as K
 use Rattle.deciding.specs.Joinings.{joinWith, isLineFor, joinedUpTo, joinedAnswer}
-use Rattle.deciding.specs.declared.answers.Answer.the-variants.{Open, ByRole, Closed, LoginWanted, RoleLacking}
-use Rattle.deciding.specs.declared.callers.Held.{Held}
-use Rattle.deciding.specs.declared.callers.Held.the-variants.{Bad, Nobody, Roles}
-use Rattle.deciding.specs.declared.decisions.Joined.{Joined}
+use Rattle.decisions.specs.declared.answers.Answer.the-variants.{Open, ByRole, Closed, LoginWanted, RoleLacking}
+use Rattle.deciding.specs.declared.callers.Who.{Who}
+use Rattle.deciding.specs.declared.callers.Who.the-variants.{Nobody, Roles}
+use Rattle.deciding.specs.declared.joining.Joined.{Joined}
 
 -- ---- with one constraint more
 module _ (j : Joined) (a : Access) where
@@ -69,7 +69,7 @@ pub join-end : (l : Listing) (t : Text) (m k n e : ℕ) (j : Joined) → (j ≡ 
 join-end l t m k n e j i h q = let z : k ≡ e = omega arith in rw (← z) (i .0)
 
 -- ---- the answer
-module _ (j : Joined) (h : Held) where
+module _ (j : Joined) (h : Who) where
   -- no constraint is taken
   pub answer-none : not (j .any) ≡ true → Open ≡ joinedAnswer j h
   unfolding joinedAnswer
@@ -86,12 +86,7 @@ module _ (j : Joined) (h : Held) where
   answer-free a c f = rw (a, c, f)
 
   module _ (any : not (j .any) ≡ false) (closed : j .closed ≡ false) (free : j .free ≡ false) where
-    -- a union, and a caller who is bad: nobody asks for this answer
-    pub answer-bad : h ≡ Bad → LoginWanted ≡ joinedAnswer j h
-    unfolding joinedAnswer
-    answer-bad e = rw (any, closed, free, e)
-
-    -- not logged in
+    -- a union, and a caller who is not logged in
     pub answer-nobody : h ≡ Nobody → LoginWanted ≡ joinedAnswer j h
     unfolding joinedAnswer
     answer-nobody e = rw (any, closed, free, e)

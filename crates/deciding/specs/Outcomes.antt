@@ -1,16 +1,15 @@
 -- What `budquarry_decide` hands back, and what it leaves in the work table.
 use Prim.Native.Nat.{ℕ}
 use mathlib.Core.Path.{_≡_}
-use mathlib.Core.Bool.{Bool, true, false, cond, _||_}
+use mathlib.Core.Bool.{Bool, true, cond}
 use mathlib.Core.List.{List}
 use mathlib.Core.Option.{Option, none, some}
-use lib.Dec.{eqb}
 use Rattle.text.specs.Texts.{Text}
 use Rattle.listings.specs.Refusals.{Reading, accepted, refusal, numberOf, shortTable, badPath, badMethod, badCaller, readingOf}
-use Rattle.listings.specs.Listings.{Listing, listingOf}
+use Rattle.listings.specs.Listings.{listingOf}
 use Rattle.worktable.specs.Work.{isShort, workAfter}
-use Rattle.deciding.specs.Requests.{Caller, Request, isPath, isMethod, callerOf}
-use Rattle.deciding.specs.Decisions.{decide, isGrant, answerNumber}
+use Rattle.decisions.specs.Requests.{Caller, Request, request, isPath, isMethod, callerOf}
+use Rattle.decisions.specs.Decisions.{decide, isGrant, answerNumber, isGrantNumber}
 use Rattle.deciding.specs.declared.answers.Decision.{Decision}
 
 -- a refusal's answer is 0
@@ -22,7 +21,7 @@ answered a = record { number = 0; side = 0; line = 0; answer = a }
 
 -- the answers that are grants, by their numbers
 abbrev pub isGranted : Decision → Bool
-isGranted d = eqb (d .answer) 1 || eqb (d .answer) 2
+isGranted d = isGrantNumber (d .answer)
 
 -- what the call is asked
 pub record Asked : Type 0 where
@@ -35,9 +34,13 @@ pub record Asked : Type 0 where
 abbrev pub asked : Text → Text → Text → ℕ → Text → Asked
 asked listing path method login names = record { listing = listing; path = path; method = method; login = login; names = names }
 
+-- what is asked, for a caller
+abbrev pub requestFor : Asked → Caller → Request
+requestFor a c = request (a .path) (a .method) c
+
 abbrev pub decideCaller : Asked → Option Caller → Decision
 decideCaller a none = refused badCaller 0 0
-decideCaller a (some c) = answered (answerNumber (decide (listingOf (a .listing)) (record { path = a .path; method = a .method; caller = c })))
+decideCaller a (some c) = answered (answerNumber (decide (listingOf (a .listing)) (requestFor a c)))
 
 -- 11, 12 and 13 behind the listing's own
 abbrev pub decideRequest : Asked → Decision
@@ -60,10 +63,6 @@ pub record DecideOutcome (a : Asked) (w : List ℕ) (handed : Decision) (left : 
   pub work : left ≡ workAfter w
 
 -- ---- what the theorems say
--- what is asked, for a caller
-abbrev pub requestFor : Asked → Caller → Request
-requestFor a c = record { path = a .path; method = a .method; caller = c }
-
 -- nothing is refused, and the answer is a grant
 pub record Granted (a : Asked) : Type 0 where
   pub reads : readingOf (a .listing) ≡ accepted

@@ -8,7 +8,7 @@ use Rattle.listings.specs.Refusals.{readingOf}
 use Rattle.worktable.specs.Work.{isShort}
 use Rattle.reading.specs.Rows.{report, row, listingRow, lastRow}
 use Rattle.listings.specs.declared.answers.Report.{Report}
-use Rattle.deciding.specs.Requests.{Caller, isPath, isMethod, callerOf}
+use Rattle.decisions.specs.Requests.{Caller, isPath, isMethod, callerOf}
 use Rattle.deciding.specs.Outcomes.{Asked}
 use Rattle.deciding.specs.declared.answers.Decision.{Decision}
 

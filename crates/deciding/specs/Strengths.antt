@@ -8,8 +8,8 @@ use lib.ListN.{length, take, drop}
 use lib.Dec.{eqb, ltb}
 use Rattle.text.specs.Texts.{Text, bytes, dot, same, has, startsWith, endsWith, run}
 use Rattle.listings.specs.Patterns.{PatternKind, exact, prefix, extension, default, unpermitted, isExtension, kindOf}
-use Rattle.deciding.specs.Matching.{afterLast, lastSegment, hasExtension, isUnder, kindMatches, matches}
-use Rattle.deciding.specs.declared.decisions.Leading.{Leading}
+use Rattle.decisions.specs.Matching.{afterLast, lastSegment, hasExtension, isUnder, kindMatches, matches}
+use Rattle.deciding.specs.declared.joining.Leading.{Leading}
 use Rattle.deciding.specs.declared.matching.Ending.{Ending}
 
 -- the better kind has the greater number, the patterns' texts having 255 bytes at most

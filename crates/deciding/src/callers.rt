@@ -12,11 +12,16 @@ use reading::held;
 use reading::tables::Tally;
 use text::texts;
 
-// A caller as the listing sees it: bad, not logged in, or logged in with those of the listing's roles, as the digits of a number.
-pub enum Held {
-    Bad,
+// A caller as the listing sees it: not logged in, or logged in with those of the listing's roles, as the digits of a number.
+pub enum Who {
     Nobody,
     Roles(u64),
+}
+
+// What a login number and a text of names come to: bad, or a caller.
+pub enum Held {
+    Bad,
+    Good(Who),
 }
 
 // The set with a role of the listing put in, where the name is one.
@@ -59,7 +64,7 @@ pub fn holder(table: &[u8; 256], s: &[u8], w: &[u32], t: Tally, names: &[u8]) ->
         count = count + 1;
         at = e + 1;
     }
-    Held::Roles(set)
+    Held::Good(Who::Roles(set))
 }
 
 // The caller of a login number and a text of names.
@@ -76,5 +81,5 @@ pub fn caller(table: &[u8; 256], s: &[u8], w: &[u32], t: Tally, login: u32, name
     if 0 < names.len() {
         return Held::Bad;
     }
-    Held::Nobody
+    Held::Good(Who::Nobody)
 }

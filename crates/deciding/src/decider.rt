@@ -9,13 +9,14 @@ ghost use Rattle.reading.specs.Room.{listingRoom};
 ghost use Rattle.reading.specs.Holds.{Holds, LoadOutcome};
 ghost use Rattle.deciding.specs.Outcomes.{asked, DecideOutcome, decideListing, decideRequest};
 ghost use Rattle.deciding.specs.Deciders.{answerFor};
-use crate::answers;
-use crate::answers::Answer;
 use crate::answers::Decision;
 use crate::callers;
 use crate::callers::Held;
-use crate::decisions;
+use crate::callers::Who;
+use crate::joining;
 use crate::matching;
+use decisions::answers;
+use decisions::answers::Answer;
 use listings::answers::BAD_CALLER;
 use listings::answers::BAD_METHOD;
 use listings::answers::BAD_PATH;
@@ -41,19 +42,19 @@ pub fn refuse(number: u32, side: u32, line: u32) -> Decision
 }
 
 // The answer to a caller for a path and a method.
-pub fn answer_for(s: &[u8], w: &[u32], t: Tally, path: &[u8], method: &[u8], h: Held) -> Answer
+pub fn answer_for(s: &[u8], w: &[u32], t: Tally, path: &[u8], method: &[u8], who: Who) -> Answer
     requires { ⌜ Holds (now s) t (now w) ⌝ }
-    ensures { λ r. ⌜ r ≡ answerFor (listingOf (now (s .entry))) (now (path .entry)) (now (method .entry)) h ⌝ }
+    ensures { λ r. ⌜ r ≡ answerFor (listingOf (now (s .entry))) (now (path .entry)) (now (method .entry)) who ⌝ }
 {
-    let best = decisions::strongest(s, w, t, path);
+    let best = joining::strongest(s, w, t, path);
     let most = best.most;
     let at = best.at;
     if most == 0 {
         return Answer::Open;
     }
     let m = held::method_index(s, w, t, method);
-    let j = decisions::join_lines(s, w, t, held::pattern(s, w, t, at), m);
-    decisions::answer_to(j, h)
+    let j = joining::join_lines(s, w, t, held::pattern(s, w, t, at), m);
+    joining::answer_to(j, who)
 }
 
 // A request to a listing that the table holds.
@@ -77,15 +78,17 @@ pub fn decide_held(
         return refuse(BAD_METHOD, 0, 0);
     }
     let h = callers::caller(&table, s, w, t, login, names);
-    if let Held::Bad = h {
-        return refuse(BAD_CALLER, 0, 0);
-    }
-    let a = answer_for(s, w, t, path, method, h);
-    Decision {
-        number: 0,
-        side: 0,
-        line: 0,
-        answer: answers::number(a),
+    match h {
+        Held::Bad => refuse(BAD_CALLER, 0, 0),
+        Held::Good(who) => {
+            let a = answer_for(s, w, t, path, method, who);
+            Decision {
+                number: 0,
+                side: 0,
+                line: 0,
+                answer: answers::number(a),
+            }
+        }
     }
 }
 

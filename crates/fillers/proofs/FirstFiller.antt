@@ -15,10 +15,12 @@ use Rattle.worktable.specs.Work.{zeroed}
 use Rattle.reading.specs.Holds.{Holds}
 use Rattle.reading.specs.declared.tables.Tally.{Tally}
 use Rattle.text.proofs.Truths.{never}
-use Rattle.reading.proofs.Accepted.{Proper, accepted-proper}
+use Rattle.listings.specs.Propers.{Proper}
+use Rattle.reading.proofs.Accepted.{accepted-proper}
 use Rattle.trials.specs.Fillers.{numbered, firstNumber, occurs, absent, fills}
 use Rattle.fillers.specs.Marks.{MarkedToo, isMarked, withinAny}
-use Rattle.trials.proofs.Pigeons.{First, first-one}
+use Rattle.trials.specs.Fillers.{First}
+use Rattle.trials.proofs.Pigeons.{first-one}
 use Rattle.trials.proofs.Bounds.{filler-of-first, filler-of-small}
 use Rattle.fillers.proofs.MarkingLines.{Around, marksIn, around-held, around-both, put-around, put-marks, width}
 

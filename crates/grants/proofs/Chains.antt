@@ -24,10 +24,10 @@ use Rattle.text.proofs.Indices.{index-here, index-bound}
 use Rattle.reading.proofs.Digits.{set-same, set-or, set-none}
 use Rattle.deciding.specs.Joinings.{nothingJoined, joinWith, isLineFor, joinedUpTo}
 use Rattle.deciding.specs.Strengths.{strength, startLeading, lead, leading}
-use Rattle.deciding.specs.declared.decisions.Joined.{Joined}
-use Rattle.deciding.specs.declared.decisions.Leading.{Leading}
+use Rattle.deciding.specs.declared.joining.Joined.{Joined}
+use Rattle.deciding.specs.declared.joining.Leading.{Leading}
 use Rattle.deciding.proofs.Strengths.{leads, at-listed, lead-past, lead-takes}
-use Rattle.deciding.proofs.Takings.{run-step}
+use Rattle.text.proofs.Indices.{run-step}
 use Rattle.grants.specs.Sides.{renumbered, seenJoined, accessMark, accessRoles, gapAt, SideOf, accessFrom, accessIn, joinedAlong}
 
 -- ---- sets of roles in other numbers

@@ -1,36 +1,32 @@
 -- The first caller whom new grants and old does not, by sets: it is where the trailing zeros of new minus old end.
-use mathlib.Core.Path.{_≡_, refl, sym, ap, ap₂, fun-ext, _∙_}
-use mathlib.Core.Bool.{Bool, true, false, not, cond, _&&_, and-false}
-use mathlib.Core.List.{List, [], _∷_, _++_}
-use mathlib.Core.Option.{Option, none, some, Option·map}
+use mathlib.Core.Path.{_≡_, refl, sym, ap, _∙_}
+use mathlib.Core.Bool.{Bool, true, false, not, cond}
+use mathlib.Core.List.{List, [], _∷_, map}
+use mathlib.Core.Option.{Option, none, some}
 use Prim.Native.Nat.{ℕ, zero, suc, _+_, _-_, _*_, _/_, _%_, _≤_}
 use native.Mathlib.Omega.{arith}
-use lib.ListN.{length, getD}
-use lib.Dec.{eqb, ltb, leb·suc-suc, leb·suc-zero}
-use borrow.Author.Tests.{lt-ltb, ne-eqb}
+use lib.ListN.{length, getD, List·getD-eq-default}
+use lib.Dec.{eqb}
+use borrow.Author.Tests.{ne-eqb, not-true}
 use lib.Bits.{bitAnd}
 use lib.Count.{under, trailingZeros}
-use Rattle.text.specs.Texts.{Text, member, first}
+use Rattle.text.specs.Texts.{Text, first}
 use Rattle.reading.specs.Sets.{setOf}
-use Rattle.text.proofs.Truths.{never, not-so}
-use Rattle.reading.proofs.Digits.{set-same, set-none, set-and, set-not}
-use Rattle.deciding.specs.Requests.{Caller, nobody}
-use Rattle.deciding.specs.Decisions.{Combined, combinedOpen, combinedClosed, union}
-use Rattle.trials.specs.Trials.{one, further, joined}
-use Rattle.trials.specs.Loops.{freshRole, shownCaller}
+use Rattle.text.proofs.Truths.{never, not-so, and-left, and-right, and-both}
+use Rattle.reading.proofs.Digits.{set-none, set-and, set-not}
+use Rattle.decisions.specs.Requests.{Caller, nobody, holder}
+use Rattle.decisions.specs.Combining.{Access, closed, free, roles, anyOf, hasRole}
+use Rattle.decisions.specs.Decisions.{answerTo, may}
+use Rattle.trials.specs.Trials.{one, callersWith}
+use Rattle.trials.specs.Loops.{isFresh}
+use Rattle.trials.proofs.Widenings.{denied-too}
 use Rattle.grants.specs.Sides.{callerAt, everyone}
-use Rattle.grants.proofs.Grantees.{grantsTo, seenBy}
+use Rattle.grants.proofs.Grantees.{grantsTo, seenBy, one-may}
 
 -- the first of the numbers below k that passes, or k
 firstPlace : ℕ → (ℕ → Bool) → ℕ
 firstPlace zero f = 0
 firstPlace (suc k) f = cond (f 0) 0 (suc (firstPlace k (λ i. f (suc i))))
-
--- tests that say the same have the same first
-place-same : (k : ℕ) (f g : ℕ → Bool) → ((i : ℕ) → f i ≡ g i) → firstPlace k f ≡ firstPlace k g
-unfolding firstPlace
-place-same zero f g h = refl
-place-same (suc k) f g h = rw (h 0, place-same k (λ i. f (suc i)) (λ i. g (suc i)) (λ i. h (suc i)))
 
 -- the trailing zeros of a set end at its first member
 trailing-set : (k : ℕ) (f : ℕ → Bool) → trailingZeros k (setOf k f) ≡ firstPlace k f
@@ -51,113 +47,84 @@ doubled : (x : ℕ) → eqb (0 + 2 * x) 0 ≡ eqb x 0
 doubled zero = refl
 doubled (suc x) = ne-eqb (0 + 2 * suc x) 0 (λ q. omega arith) ∙ sym (ne-eqb (suc x) 0 (λ q. omega arith))
 
--- name i is in the one set and not in the other
-abbrev freshAt : (Text → Bool) → (Text → Bool) → List Text → ℕ → Bool
-freshAt f g ns i = (ltb i (length ns) && f (getD ns i [])) && not (ltb i (length ns) && g (getD ns i []))
-
--- the first place that passes is the first name's, where none of further names passes
-place-name : (f g : Text → Bool) (ns more : List Text) (k : ℕ) → length ns ≤ k → first (λ n. f n && not (g n)) more ≡ none
-    → cond (eqb (setOf k (freshAt f g ns)) 0) none (some (getD ns (firstPlace k (freshAt f g ns)) [])) ≡ first (λ n. f n && not (g n)) (ns ++ more)
-unfolding firstPlace first setOf
-place-name f g [] more k h e = rw (set-none k (freshAt f g []) (λ i. rw leb·suc-zero)) (sym e)
-place-name f g (n ∷ ns) more zero h e = absurd (omega arith)
-place-name f g (n ∷ ns) more (suc k) h e =
-    let here : ltb 0 (suc (length ns)) ≡ true = lt-ltb 0 (suc (length ns)) (omega arith) in
-    ap (λ (b : Bool). found ((b && f n) && not (b && g n)) (setOf k later) (firstPlace k later)) here
-    ∙ ap₂ (found (f n && not (g n))) (set-same k later (freshAt f g ns) (λ i q. after i)) (place-same k later (freshAt f g ns) after)
-    ∙ go (f n && not (g n)) (place-name f g ns more k (omega arith) e)
-  where
-    found : Bool → ℕ → ℕ → Option Text
-    found b x i = cond (eqb (cond b 1 0 + 2 * x) 0) none (some (getD (n ∷ ns) (cond b 0 (suc i)) []))
-
-    later : ℕ → Bool
-    later i = freshAt f g (n ∷ ns) (suc i)
-
-    after : (i : ℕ) → later i ≡ freshAt f g ns i
-    after i = rw leb·suc-suc
-
-    go : (b : Bool) → cond (eqb (setOf k (freshAt f g ns)) 0) none (some (getD ns (firstPlace k (freshAt f g ns)) [])) ≡ first (λ n. f n && not (g n)) (ns ++ more)
-        → found b (setOf k (freshAt f g ns)) (firstPlace k (freshAt f g ns)) ≡ cond b (some n) (first (λ n. f n && not (g n)) (ns ++ more))
-    go true ih = rw (ne-eqb (1 + 2 * setOf k (freshAt f g ns)) 0 (λ q. omega arith))
-    go false ih = rw (doubled (setOf k (freshAt f g ns))) ih
-
--- further names of old are none that new admits
-further-none : (f : Text → Bool) (us vs : List Text) → ((n : Text) → member n us ≡ false → f n ≡ false) → first f (further us vs) ≡ none
-unfolding first further
-further-none f us [] h = refl
-further-none f us (v ∷ vs) h = go (member v us) refl (further-none f us vs h)
-  where
-    go : (b : Bool) → member v us ≡ b → first f (further us vs) ≡ none → first f (cond b (further us vs) (v ∷ further us vs)) ≡ none
-    go true e ih = ih
-    go false e ih = rw (h v e) ih
-
 -- ---- callers
-module _ (ns : List Text) where
+-- of callers with one role each: the first place that passes is the first caller's who does, where no name does not
+place-caller : (f : Caller → Bool) (ns : List Text) (k : ℕ) → length ns ≤ k → f (one []) ≡ false
+    → cond (eqb (setOf k (λ i. f (one (getD ns i [])))) 0) none (some (one (getD ns (firstPlace k (λ i. f (one (getD ns i [])))) []))) ≡ first f (map one ns)
+unfolding setOf firstPlace first
+place-caller f [] k h e = rw (set-none k (λ i. f (one (getD [] i []))) (λ i. ap (λ (n : Text). f (one n)) (List·getD-eq-default [] [] {n = i} (omega arith)) ∙ e))
+place-caller f (n ∷ ns) zero h e = absurd (omega arith)
+place-caller f (n ∷ ns) (suc k) h e = go (f (one n)) (place-caller f ns k (omega arith) e)
+  where
+    later : ℕ → Bool
+    later i = f (one (getD ns i []))
+
+    go : (b : Bool) → cond (eqb (setOf k later) 0) none (some (one (getD ns (firstPlace k later) []))) ≡ first f (map one ns)
+        → cond (eqb (cond b 1 0 + 2 * setOf k later) 0) none (some (one (getD (n ∷ ns) (cond b 0 (suc (firstPlace k later))) []))) ≡ cond b (some (one n)) (first f (map one ns))
+    go true ih = rw (ne-eqb (1 + 2 * setOf k later) 0 (λ q. omega arith))
+    go false ih = rw (doubled (setOf k later)) ih
+
+module _ (ns : List Text) (few : length ns ≤ 32) where
   -- the first caller of the k first that passes
   abbrev callerWhere : ℕ → (ℕ → Bool) → Option Caller
   callerWhere k f = cond (eqb (setOf k f) 0) none (some (callerAt ns (firstPlace k f)))
-
-  -- none does
-  none-where : (k : ℕ) (f : ℕ → Bool) → ((i : ℕ) → f i ≡ false) → callerWhere k f ≡ none
-  none-where k f h = rw (set-none k f h)
 
   -- one who is not logged in does
   nobody-where : (k : ℕ) (f : ℕ → Bool) → f 0 ≡ true → callerWhere (suc k) f ≡ some nobody
   unfolding setOf firstPlace
   nobody-where k f e = rw (e, ne-eqb (1 + 2 * setOf k (λ i. f (suc i))) 0 (λ q. omega arith))
 
-  -- he does not: the first with a role that does
-  one-where : (k : ℕ) (f : ℕ → Bool) → f 0 ≡ false
-      → callerWhere (suc k) f ≡ Option·map one (cond (eqb (setOf k (λ i. f (suc i))) 0) none (some (getD ns (firstPlace k (λ i. f (suc i))) [])))
+  -- he does not, nor one without a role: the first with a role that does
+  one-where : (k : ℕ) (f : ℕ → Bool) → f 0 ≡ false → f 1 ≡ false
+      → callerWhere (suc (suc k)) f ≡ cond (eqb (setOf k (λ i. f (suc (suc i)))) 0) none (some (one (getD ns (firstPlace k (λ i. f (suc (suc i)))) [])))
   unfolding setOf firstPlace
-  one-where k f e = rw (e, doubled (setOf k (λ i. f (suc i)))) (go (eqb (setOf k (λ i. f (suc i))) 0))
+  one-where k f e d = rw (e, doubled (cond (f 1) 1 0 + 2 * setOf k (λ i. f (suc (suc i)))), d, doubled (setOf k (λ i. f (suc (suc i)))))
+
+  -- so it is the first of the callers, where those without a role and with no name pass only beside one who is not logged in
+  caller-first : (f : Caller → Bool) → (f (holder []) ≡ true → f nobody ≡ true) → (f (one []) ≡ true → f nobody ≡ true)
+      → callerWhere 64 (λ i. f (callerAt ns i)) ≡ first f (callersWith ns)
+  unfolding first
+  caller-first f h k = go (f nobody) refl
     where
-      go : (b : Bool) → cond b none (some (one (getD ns (firstPlace k (λ i. f (suc i))) []))) ≡ Option·map one (cond b none (some (getD ns (firstPlace k (λ i. f (suc i))) [])))
-      go true = refl
-      go false = refl
+      go : (b : Bool) → f nobody ≡ b → callerWhere 64 (λ i. f (callerAt ns i)) ≡ cond b (some nobody) (first f (map one ns))
+      go true e = nobody-where 63 (λ i. f (callerAt ns i)) e
+      go false e =
+          one-where 62 (λ i. f (callerAt ns i)) e (not-so (f (holder [])) (λ q. never (f nobody) (h q) e))
+          ∙ place-caller f ns 62 (omega arith) (not-so (f (one [])) (λ q. never (f nobody) (k q) e))
 
-  -- the callers of the one that are none of the other's
-  callers-fresh : (a b : Combined) → bitAnd (seenBy ns a) (everyone - seenBy ns b) ≡ setOf 64 (λ i. grantsTo ns a i && not (grantsTo ns b i))
-  callers-fresh a b = ap (bitAnd (seenBy ns a)) (set-not 64 (grantsTo ns b)) ∙ set-and 64 (grantsTo ns a) (λ i. not (grantsTo ns b i))
+  -- ---- whom the one grants and the other does not
+  module _ (a b : Access) where
+    callers-fresh : bitAnd (seenBy ns a) (everyone - seenBy ns b) ≡ setOf 64 (λ i. isFresh a b (callerAt ns i))
+    unfolding isFresh
+    callers-fresh = ap (bitAnd (seenBy ns a)) (set-not 64 (grantsTo ns b)) ∙ set-and 64 (grantsTo ns a) (λ i. not (grantsTo ns b i))
 
-  -- who admits no role grants as little as who is closed
-  none-granted : (i : ℕ) → grantsTo ns (union []) i ≡ false
-  unfolding member
-  none-granted zero = refl
-  none-granted (suc i) = and-false (ltb i (length ns))
+    -- one who is not logged in is so, where another is and the one grants him too: old denies him, since a grant is never lost
+    nobody-fresh : (c : Caller) → (may a c ≡ true → may a nobody ≡ true) → isFresh a b c ≡ true → isFresh a b nobody ≡ true
+    unfolding isFresh
+    nobody-fresh c h e =
+        and-both (may a nobody) (not (may b nobody)) (h (and-left (may a c) (not (may b c)) e))
+        (ap not (denied-too b c nobody tt (not-true (may b c) (and-right (may a c) (not (may b c)) e))))
 
-  -- ---- the first of them is the caller to show, where new admits no further names
-  module _ (few : length ns ≤ 32) (more : List Text) where
-    -- of two unions
-    union-shown : (rs os : List Text) → ((n : Text) → member n rs ≡ true → member n ns ≡ true)
-        → callerWhere 64 (λ i. grantsTo ns (union rs) i && not (grantsTo ns (union os) i)) ≡ shownCaller (union rs) (union os) (joined ns more)
-    unfolding shownCaller freshRole joined
-    union-shown rs os named =
-        one-where 63 (λ i. grantsTo ns (union rs) i && not (grantsTo ns (union os) i)) refl
-        ∙ ap (Option·map one) (place-name (λ n. member n rs) (λ n. member n os) ns (further ns more) 63 (omega arith)
-        (further-none (λ n. member n rs && not (member n os)) ns more (λ n e. rw (not-so (member n rs) (λ q. never (member n ns) (named n q) e)))))
+  -- who grants one without a role, or with no name, grants one who is not logged in
+  without-role : (a : Access) → may a (holder []) ≡ true → may a nobody ≡ true
+  unfolding answerTo anyOf
+  without-role closed h = h
+  without-role free h = refl
+  without-role (roles f) h = absurd (never false h refl)
 
-    -- whatever they come to
-    by-kinds : (a b : Combined) → ((rs : List Text) → a ≡ union rs → (n : Text) → member n rs ≡ true → member n ns ≡ true)
-        → callerWhere 64 (λ i. grantsTo ns a i && not (grantsTo ns b i)) ≡ shownCaller a b (joined ns more)
-    unfolding shownCaller
-    by-kinds combinedClosed b named = none-where 64 _ (λ i. refl)
-    by-kinds combinedOpen combinedClosed named = nobody-where 63 _ refl
-    by-kinds combinedOpen combinedOpen named = none-where 64 _ (λ i. refl)
-    by-kinds combinedOpen (union os) named = nobody-where 63 _ refl
-    by-kinds (union rs) combinedOpen named = none-where 64 _ (λ i. and-false (grantsTo ns (union rs) i))
-    by-kinds (union rs) combinedClosed named =
-        ap (callerWhere 64) (fun-ext (λ i. ap (λ (b : Bool). grantsTo ns (union rs) i && not b) (sym (none-granted i)))) ∙ union-shown rs [] (named rs refl)
-    by-kinds (union rs) (union os) named = union-shown rs os (named rs refl)
+  without-name : (a : Access) → hasRole a [] ≡ false → may a (one []) ≡ true → may a nobody ≡ true
+  unfolding answerTo
+  without-name closed e h = h
+  without-name free e h = refl
+  without-name (roles f) e h = absurd (never (f []) (sym (one-may f []) ∙ h) e)
 
-    -- so it is where the trailing zeros end
-    pub caller-by-sets : (a b : Combined) → ((rs : List Text) → a ≡ union rs → (n : Text) → member n rs ≡ true → member n ns ≡ true)
-        → (x : ℕ) → x ≡ bitAnd (seenBy ns a) (everyone - seenBy ns b)
-        → cond (eqb x 0) none (some (callerAt ns (trailingZeros 64 x))) ≡ shownCaller a b (joined ns more)
-    caller-by-sets a b named x e =
-        ap (λ (y : ℕ). cond (eqb y 0) none (some (callerAt ns (trailingZeros 64 y)))) (e ∙ callers-fresh a b)
-        ∙ ap (λ (i : ℕ). cond (eqb (setOf 64 f) 0) none (some (callerAt ns i))) (trailing-set 64 f)
-        ∙ by-kinds a b named
-      where
-        f : ℕ → Bool
-        f i = grantsTo ns a i && not (grantsTo ns b i)
+  -- the first of them is where the trailing zeros end
+  pub caller-by-sets : (a b : Access) → hasRole a [] ≡ false → (x : ℕ) → x ≡ bitAnd (seenBy ns a) (everyone - seenBy ns b)
+      → cond (eqb x 0) none (some (callerAt ns (trailingZeros 64 x))) ≡ first (isFresh a b) (callersWith ns)
+  caller-by-sets a b unnamed x e =
+      ap (λ (y : ℕ). cond (eqb y 0) none (some (callerAt ns (trailingZeros 64 y)))) (e ∙ callers-fresh a b)
+      ∙ ap (λ (i : ℕ). cond (eqb (setOf 64 f) 0) none (some (callerAt ns i))) (trailing-set 64 f)
+      ∙ caller-first (isFresh a b) (nobody-fresh a b (holder []) (without-role a)) (nobody-fresh a b (one []) (without-name a unnamed))
+    where
+      f : ℕ → Bool
+      f i = isFresh a b (callerAt ns i)

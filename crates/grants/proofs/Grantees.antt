@@ -1,46 +1,47 @@
 -- At the place of a path the table of a side grants whom the listing grants there.
 use mathlib.Core.Path.{_≡_, refl, sym, ap, _∙_}
-use mathlib.Core.Bool.{Bool, true, false, not, cond, _&&_, _||_}
-use mathlib.Core.List.{List, []}
+use mathlib.Core.Bool.{Bool, true, false, not, cond, _&&_, or-false}
+use mathlib.Core.List.{List, [], _∷_}
 use mathlib.Core.Option.{none, some}
 use Prim.Native.Nat.{ℕ, zero, suc, _+_, _*_, _%_, _^_, _≤_, _<_}
 use native.Mathlib.Nat.{zero-add, suc-add, pow-suc, mod-eq-of-lt}
 use native.Mathlib.Numerals.{add-one}
 use native.Mathlib.Omega.{arith}
 use native.Mathlib.Decide.{decLt}
-use lib.ListN.{length, getD}
+use lib.ListN.{length, getD, List·getD-eq-default}
 use lib.Dec.{eqb, ltb}
 use borrow.Author.Tests.{lt-ltb, le-ltb, eqb-false}
 use Rattle.text.specs.Texts.{Text, member, indexOf}
+use Rattle.listings.specs.Names.{isRoleName}
 use Rattle.listings.specs.Listings.{Listing, patternsOf}
+use Rattle.listings.specs.Propers.{Proper}
 use Rattle.reading.specs.Sets.{setOf, digit}
 use Rattle.text.proofs.Truths.{never, not-so}
 use Rattle.text.proofs.Indices.{index-member, index-here}
 use Rattle.reading.proofs.Digits.{set-same, set-none, digit-set}
-use Rattle.reading.proofs.Accepted.{Proper}
-use Rattle.deciding.specs.Decisions.{Combined, combinedOpen, combinedClosed, union, taken, combinedAt, combinedFor}
-use Rattle.deciding.specs.Matching.{best}
-use Rattle.deciding.specs.Gatherings.{Gathered, gathered}
+use Rattle.decisions.specs.Matching.{best}
+use Rattle.decisions.specs.Combining.{Access, closed, free, roles, anyOf}
+use Rattle.decisions.specs.Decisions.{nothingTaken, combinedAt, combinedFor, answerTo, may}
+use Rattle.decisions.specs.Gatherings.{gathered}
+use Rattle.decisions.proofs.Gatherings.{gathered-combined}
+use Rattle.decisions.proofs.Promises.{roles-grant}
 use Rattle.deciding.specs.Joinings.{joinedUpTo}
 use Rattle.deciding.specs.Strengths.{leading, bestLine}
-use Rattle.deciding.specs.declared.decisions.Joined.{Joined}
-use Rattle.deciding.specs.declared.decisions.Leading.{Leading}
+use Rattle.deciding.specs.declared.joining.Joined.{Joined}
+use Rattle.deciding.specs.declared.joining.Leading.{Leading}
 use Rattle.deciding.proofs.Strengths.{leads, best-line-some, best-line-none}
-use Rattle.deciding.proofs.Takings.{unionOf, gathered-combined, gathered-union}
-use Rattle.deciding.proofs.Joins.{Agree, agree-all, rolesThat}
-use Rattle.grants.specs.Sides.{placeOf, everyone, renumbered, granted, seenJoined, SideOf, grantsIn}
+use Rattle.deciding.proofs.Joins.{Shows, Listed, agree-all, rolesThat}
+use Rattle.trials.specs.Trials.{one}
+use Rattle.grants.specs.Sides.{placeOf, callerAt, everyone, renumbered, granted, seenJoined, SideOf, grantsIn}
 use Rattle.grants.proofs.Chains.{along-first, leader-first}
 
--- ---- whom a listing grants: caller 0 is not logged in, caller i + 1 has role i of ns
-abbrev pub grantsTo : List Text → Combined → ℕ → Bool
-grantsTo ns combinedOpen i = true
-grantsTo ns combinedClosed i = false
-grantsTo ns (union rs) zero = false
-grantsTo ns (union rs) (suc i) = ltb i (length ns) && member (getD ns i []) rs
+-- ---- whom an access grants, by the callers' numbers
+abbrev pub grantsTo : List Text → Access → ℕ → Bool
+grantsTo ns a i = may a (callerAt ns i)
 
 -- as a set
-abbrev pub seenBy : List Text → Combined → ℕ
-seenBy ns c = setOf 64 (grantsTo ns c)
+abbrev pub seenBy : List Text → Access → ℕ
+seenBy ns a = setOf 64 (grantsTo ns a)
 
 -- ---- sets
 -- a set of numbers below k is below 2 ^ k
@@ -64,19 +65,45 @@ set-shift : (k : ℕ) (f : ℕ → Bool) → f 0 ≡ false → setOf (suc k) f �
 unfolding setOf
 set-shift k f e = rw (e, zero-add)
 
--- so are the roles' callers
-callers-of : (ns rs : List Text) → length ns ≤ 32 → 2 * setOf 32 (λ i. ltb i (length ns) && member (getD ns i []) rs) ≡ seenBy ns (union rs)
-callers-of ns rs h =
-    sym (set-shift 63 (grantsTo ns (union rs)) refl
-    ∙ ap (λ (x : ℕ). 2 * x) (set-more 32 31 (λ i. ltb i (length ns) && member (getD ns i []) rs) (λ i j. rw (le-ltb i (length ns) (omega arith)))))
+-- ---- so are the callers whom roles admit two higher than the roles
+-- one role is admitted where the roles have it
+pub one-may : (f : Text → Bool) (n : Text) → may (roles f) (one n) ≡ f n
+unfolding anyOf
+one-may f n = roles-grant f (n ∷ []) ∙ or-false (f n)
+
+-- one who is not logged in, or has no role, is not admitted
+two-lower : (f : Text → Bool) → (may (roles f) (callerAt [] 0) ≡ false) × (may (roles f) (callerAt [] 1) ≡ false)
+unfolding answerTo anyOf
+two-lower f = (refl, refl)
+
+seen-roles : (ns : List Text) (f : Text → Bool) → length ns ≤ 32 → f [] ≡ false → 4 * setOf 32 (λ i. ltb i (length ns) && f (getD ns i [])) ≡ seenBy ns (roles f)
+seen-roles ns f h e =
+    sym (set-shift 63 (grantsTo ns (roles f)) (two-lower f .0)
+    ∙ ap (λ (x : ℕ). 2 * x) (set-shift 62 (λ i. grantsTo ns (roles f) (suc i)) (two-lower f .1)
+    ∙ ap (λ (x : ℕ). 2 * x) (set-same 62 (λ i. grantsTo ns (roles f) (suc (suc i))) test (λ i k. at i (decLt i (length ns)))
+    ∙ set-more 32 30 test (λ i j. rw (le-ltb i (length ns) (omega arith)))))
+    ∙ four (setOf 32 test))
+  where
+    test : ℕ → Bool
+    test i = ltb i (length ns) && f (getD ns i [])
+
+    four : (x : ℕ) → 2 * (2 * x) ≡ 4 * x
+    four x = omega arith
+
+    at : (i : ℕ) → Dec (i < length ns) → may (roles f) (one (getD ns i [])) ≡ test i
+    at i (yes l) = one-may f (getD ns i []) ∙ sym (ap (λ (b : Bool). b && f (getD ns i [])) (lt-ltb i (length ns) l))
+    at i (no l) =
+        one-may f (getD ns i []) ∙ ap f (List·getD-eq-default ns [] {n = i} (omega arith)) ∙ e
+        ∙ sym (ap (λ (b : Bool). b && f (getD ns i [])) (le-ltb i (length ns) (omega arith)))
 
 -- all callers, and none
-set-everyone : setOf 64 (λ i. true) ≡ everyone
-unfolding setOf
-set-everyone = refl
+seen-free : (ns : List Text) → everyone ≡ seenBy ns free
+unfolding setOf answerTo
+seen-free ns = refl
 
-set-nobody : setOf 64 (λ i. false) ≡ 0
-set-nobody = set-none 64 (λ i. false) (λ i. refl)
+seen-closed : (ns : List Text) → 0 ≡ seenBy ns closed
+unfolding setOf answerTo
+seen-closed ns = refl
 
 -- ---- what is joined
 module _ (ns : List Text) (few : length ns ≤ 32) (l : Listing) (P : Proper l) where
@@ -89,7 +116,7 @@ module _ (ns : List Text) (few : length ns ≤ 32) (l : Listing) (P : Proper l) 
   renumbered-is x = refl
 
   -- a role is one of those that pass where it passes
-  has-role : (f : Text → Bool) → ((n : Text) → f n ≡ true → member n (l .roles) ≡ true) → (n : Text) → has (rolesThat l f) n ≡ f n
+  has-role : (f : Text → Bool) → Listed l f → (n : Text) → has (rolesThat l f) n ≡ f n
   has-role f listed n = go (decLt (indexOf n (l .roles)) (length (l .roles)))
     where
       one : (b : Bool) → eqb (cond b 1 0) 1 ≡ b
@@ -108,45 +135,41 @@ module _ (ns : List Text) (few : length ns ≤ 32) (l : Listing) (P : Proper l) 
           let e : ltb (indexOf n (l .roles)) (length (l .roles)) ≡ false = le-ltb (indexOf n (l .roles)) (length (l .roles)) (omega arith) in
           rw e (sym (not-so (f n) (λ q. never (member n (l .roles)) (listed n q) (sym (index-member n (l .roles)) ∙ e))))
 
-  module _ (t m : Text) where
-    abbrev j : Joined
-    j = joinedUpTo l t (indexOf m (l .methods)) (length (patternsOf l))
+  -- no role has no byte
+  nameless : (f : Text → Bool) → Listed l f → f [] ≡ false
+  unfolding isRoleName
+  nameless f listed = not-so (f []) (λ q. never (isRoleName []) (P .good-roles [] (listed [] q)) refl)
 
-    abbrev g : Gathered
-    g = gathered l t m
+  -- the roles joined are those that pass
+  roles-joined : (f : Text → Bool) → Listed l f → 4 * (renumbered ns (l .roles) (rolesThat l f) % 4294967296) ≡ seenBy ns (roles f)
+  roles-joined f listed =
+      ap (λ (x : ℕ). 4 * (x % 4294967296)) (renumbered-is (rolesThat l f) ∙ set-same 32 _ test (λ i h. ap (λ (b : Bool). ltb i (length ns) && b) (has-role f listed (getD ns i []))))
+      ∙ ap (λ (x : ℕ). 4 * x) (mod-eq-of-lt (set-below 32 test))
+      ∙ seen-roles ns f few (nameless f listed)
+    where
+      test : ℕ → Bool
+      test i = ltb i (length ns) && f (getD ns i [])
 
-    abbrev rs : List Text
-    rs = unionOf (l .declared) (taken t m (l .constraints))
+  -- what is joined grants whom that which it shows does
+  shows-grants : (j : Joined) (a : Access) → Shows l j a
+      → cond (j .closed) 0 (cond (j .free) everyone (4 * (renumbered ns (l .roles) (j .roles) % 4294967296))) ≡ seenBy ns a
+  shows-grants j closed s = rw s (seen-closed ns)
+  shows-grants j free s = rw (s .0, s .1) (seen-free ns)
+  shows-grants j (roles f) s = rw (s .0, s .1, s .2) (roles-joined f (s .3))
 
-    -- the roles joined are those of the union
-    roles-joined : g .free ≡ false → 2 * (renumbered ns (l .roles) (j .roles) % 4294967296) ≡ seenBy ns (union rs)
-    roles-joined e =
-        ap (λ (x : ℕ). 2 * (x % 4294967296)) (ap (renumbered ns (l .roles)) (A .roles e) ∙ renumbered-is (rolesThat l (g .admitted)) ∙ set-same 32 _ f (λ i h.
-        ap (λ (b : Bool). ltb i (length ns) && b) (has-role (g .admitted) (A .listed) (getD ns i []) ∙ sym (gathered-union l t m (getD ns i [])))))
-        ∙ ap (λ (x : ℕ). 2 * x) (mod-eq-of-lt (set-below 32 f))
-        ∙ callers-of ns rs few
-      where
-        A : Agree l j g
-        A = agree-all l P t m
+  -- so it grants whom the constraints taken grant
+  granted-at : (t m : Text) → granted (seenJoined ns l (joinedUpTo l t (indexOf m (l .methods)) (length (patternsOf l)))) ≡ seenBy ns (combinedAt l (some t) m)
+  unfolding granted
+  granted-at t m = let A = agree-all l P t m in rw (A .0, gathered-combined l t m) (go (gathered l t m .any) (A .1))
+    where
+      j : Joined
+      j = joinedUpTo l t (indexOf m (l .methods)) (length (patternsOf l))
 
-        f : ℕ → Bool
-        f i = ltb i (length ns) && member (getD ns i []) rs
-
-    -- what is joined grants whom the constraints taken grant
-    granted-at : granted (seenJoined ns l j) ≡ seenBy ns (combinedAt l (some t) m)
-    unfolding granted
-    granted-at =
-        let A = agree-all l P t m in
-        rw (A .taken, A .closed, A .free, gathered-combined l t m) (go (g .taken) (g .closed) (g .free) (A .closes) roles-joined)
-      where
-        go : (a b c : Bool) → (a ≡ false → b ≡ false) → (c ≡ false → 2 * (renumbered ns (l .roles) (j .roles) % 4294967296) ≡ seenBy ns (union rs))
-            → cond (not a) everyone (cond b 0 (cond c everyone (2 * (renumbered ns (l .roles) (j .roles) % 4294967296))))
-            ≡ seenBy ns (cond b combinedClosed (cond (not a || c) combinedOpen (union rs)))
-        go true true c q e = sym set-nobody
-        go true false true q e = sym set-everyone
-        go true false false q e = e refl
-        go false true c q e = absurd (never true refl (q refl))
-        go false false c q e = sym set-everyone
+      go : (b : Bool) → Shows l j (gathered l t m .sum)
+          → cond (not b) everyone (cond (j .closed) 0 (cond (j .free) everyone (4 * (renumbered ns (l .roles) (j .roles) % 4294967296))))
+          ≡ seenBy ns (cond b (gathered l t m .sum) nothingTaken)
+      go true s = shows-grants j (gathered l t m .sum) s
+      go false s = seen-free ns
 
   -- ---- at the place of a path the table grants whom the listing grants
   module _ (side : List ℕ) (S : SideOf ns l side) (p m : Text) where
@@ -158,7 +181,7 @@ module _ (ns : List Text) (few : length ns ≤ 32) (l : Listing) (P : Proper l) 
     unfolding grantsIn combinedAt bestLine
     by-place true e =
         let b : best (patternsOf l) p ≡ none = best-line-none (patternsOf l) p (P .short-patterns) .0 (rw e) in
-        rw b (sym set-everyone)
+        rw b (seen-free ns)
     by-place false e =
         let b : best (patternsOf l) p ≡ some (getD (patternsOf l) (x .at) []) = best-line-some (patternsOf l) p (P .short-patterns) (x .at) (rw e) in
         let n = eqb-false (x .most) 0 e in

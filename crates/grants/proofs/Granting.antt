@@ -12,7 +12,7 @@ use Rattle.reading.specs.declared.held.Access.{Access}
 use Rattle.reading.specs.declared.held.Access.the-variants.{Open, Closed, ByRole}
 use Rattle.reading.specs.Sets.{digit}
 use Rattle.deciding.specs.Joinings.{nothingJoined, joinWith}
-use Rattle.deciding.specs.declared.decisions.Joined.{Joined}
+use Rattle.deciding.specs.declared.joining.Joined.{Joined}
 use Rattle.grants.specs.Sides.{accessFrom, accessIn, joinedAlong, granted, grantsIn, rowIn}
 use Rattle.grants.proofs.Stores.{Filled, fill-start, filled-listed}
 
@@ -113,7 +113,7 @@ module _ (j : Joined) where
   granted-free a c f = rw (a, c, f)
 
   -- else those with one of the roles
-  pub granted-roles : not (j .any) ≡ false → j .closed ≡ false → j .free ≡ false → 2 * (j .roles % 4294967296) ≡ granted j
+  pub granted-roles : not (j .any) ≡ false → j .closed ≡ false → j .free ≡ false → 4 * (j .roles % 4294967296) ≡ granted j
   unfolding granted
   granted-roles a c f = rw (a, c, f)
 

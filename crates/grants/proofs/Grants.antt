@@ -9,19 +9,22 @@ use lib.ListN.{length, getD, drop}
 use lib.Dec.{eqb}
 use lib.Bits.{bitAnd}
 use lib.Count.{trailingZeros}
-use Rattle.text.specs.Texts.{Text, indexOf}
+use Rattle.text.specs.Texts.{Text, first, indexOf}
 use Rattle.listings.specs.Listings.{Listing, patternsOf}
-use Rattle.reading.proofs.Accepted.{Proper}
-use Rattle.deciding.specs.Matching.{best}
-use Rattle.deciding.specs.Requests.{Caller, Request}
-use Rattle.deciding.specs.Decisions.{combinedFor}
-use Rattle.trials.specs.Trials.{trialNames, trialMethods}
-use Rattle.trials.specs.Loops.{firstSome, shownCaller, shownAt}
+use Rattle.listings.specs.Names.{isRoleName}
+use Rattle.listings.specs.Propers.{Proper}
+use Rattle.decisions.specs.Matching.{best}
+use Rattle.decisions.specs.Requests.{Caller, Request, request}
+use Rattle.decisions.specs.Combining.{hasRole}
+use Rattle.decisions.specs.Decisions.{combinedFor}
+use Rattle.text.proofs.Truths.{never, not-so}
+use Rattle.trials.specs.Trials.{callersWith, trialMethods}
+use Rattle.trials.specs.Loops.{firstSome, isFresh, shownAt}
 use Rattle.grants.specs.Sides.{everyone, callerAt, placeOf, grantsIn, rowIn, SideOf, Ready}
 use Rattle.grants.specs.Catches.{shownOn, freshIn, caughtFrom, caughtIn, caughtOn}
 use Rattle.grants.specs.declared.judging.Caught.the-variants as C
 use Rattle.grants.proofs.Stores.{listed-at}
-use Rattle.trials.proofs.Alikes.{union-named}
+use Rattle.decisions.proofs.Takings.{role-named}
 use Rattle.grants.proofs.Grantees.{seenBy, grants-place}
 use Rattle.grants.proofs.FreshRoles.{caller-by-sets}
 use Rattle.trials.proofs.Turns.{turn-found, turn-on, turn-ends}
@@ -47,8 +50,8 @@ module _ (new old : Listing) (N : Proper new) (O : Proper old) (sn so pairs : Li
   abbrev method : ℕ → Text
   method i = getD (trialMethods new old) i []
 
-  abbrev request : ℕ → Caller → Request
-  request i c = record { path = p; method = method i; caller = c }
+  abbrev asking : ℕ → Caller → Request
+  asking i c = request p (method i) c
 
   -- the callers whom new grants and old does not
   fresh-at : (i : ℕ) → i < count
@@ -63,20 +66,23 @@ module _ (new old : Listing) (N : Proper new) (O : Proper old) (sn so pairs : Li
   abbrev caller : ℕ → Caller
   caller i = callerAt (new .roles) (trailingZeros 64 (freshIn rn ro pairs i))
 
+  -- no role has no byte
+  nameless : (m : Text) → hasRole (combinedFor new p m) [] ≡ false
+  unfolding combinedFor isRoleName
+  nameless m = not-so (hasRole (combinedFor new p m) []) (λ h. never (isRoleName []) (N .good-roles [] (role-named new N m [] (best (patternsOf new) p) h)) refl)
+
   -- is the caller to show
   caller-at : (i : ℕ) → i < count
-      → cond (eqb (freshIn rn ro pairs i) 0) none (some (caller i)) ≡ shownCaller (combinedFor new p (method i)) (combinedFor old p (method i)) (trialNames new old)
-  unfolding trialNames combinedFor
+      → cond (eqb (freshIn rn ro pairs i) 0) none (some (caller i)) ≡ first (isFresh (combinedFor new p (method i)) (combinedFor old p (method i))) (callersWith (new .roles))
   caller-at i h =
-      caller-by-sets (new .roles) (N .few-roles) (old .roles) (combinedFor new p (method i)) (combinedFor old p (method i))
-      (λ rs e n q. union-named new N (best (patternsOf new) p) (method i) rs n e q) (freshIn rn ro pairs i) (fresh-at i h)
+      caller-by-sets (new .roles) (N .few-roles) (combinedFor new p (method i)) (combinedFor old p (method i)) (nameless (method i)) (freshIn rn ro pairs i) (fresh-at i h)
 
   -- so it gives the request to show
-  request-at : (i : ℕ) → i < count → shownAt new old p (method i) ≡ cond (eqb (freshIn rn ro pairs i) 0) none (some (request i (caller i)))
+  request-at : (i : ℕ) → i < count → shownAt new old p (method i) ≡ cond (eqb (freshIn rn ro pairs i) 0) none (some (asking i (caller i)))
   unfolding shownAt
-  request-at i h = ap (Option·map (request i)) (sym (caller-at i h)) ∙ go (eqb (freshIn rn ro pairs i) 0)
+  request-at i h = ap (Option·map (asking i)) (sym (caller-at i h)) ∙ go (eqb (freshIn rn ro pairs i) 0)
     where
-      go : (x : Bool) → Option·map (request i) (cond x none (some (caller i))) ≡ cond x none (some (request i (caller i)))
+      go : (x : Bool) → Option·map (asking i) (cond x none (some (caller i))) ≡ cond x none (some (asking i (caller i)))
       go true = refl
       go false = refl
 

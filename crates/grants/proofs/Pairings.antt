@@ -13,7 +13,8 @@ use Rattle.text.specs.Texts.{Text, member, indexOf}
 use Rattle.listings.specs.Listings.{Listing, listingOf}
 use Rattle.reading.specs.Holds.{Holds}
 use Rattle.reading.specs.declared.tables.Tally.{Tally}
-use Rattle.reading.proofs.Accepted.{Proper, accepted-proper}
+use Rattle.listings.specs.Propers.{Proper}
+use Rattle.reading.proofs.Accepted.{accepted-proper}
 use Rattle.trials.specs.Fillers.{fillerMethodOf}
 use Rattle.trials.specs.Trials.{further, joined, trialMethods}
 use Rattle.grants.specs.Sides.{PairsOf, PairedUp}

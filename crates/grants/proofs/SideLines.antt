@@ -22,7 +22,8 @@ use Rattle.reading.specs.Views.{coverAt, accessAt}
 use Rattle.reading.specs.declared.held.Access.{Access}
 use Rattle.reading.specs.declared.tables.Tally.{Tally}
 use Rattle.reading.proofs.Digits.{set-same, set-none, set-with}
-use Rattle.reading.proofs.Accepted.{Proper, accepted-proper}
+use Rattle.listings.specs.Propers.{Proper}
+use Rattle.reading.proofs.Accepted.{accepted-proper}
 use Rattle.grants.specs.Sides.{SideOf, renumbered, accessMark, accessRoles, gapAt}
 use Rattle.grants.proofs.Stores.{Filled, fill-start, fill-more}
 use Rattle.text.proofs.Indices.{index-bound}

@@ -9,7 +9,7 @@ use lib.Bits.{bitAnd}
 use lib.Count.{trailingZeros}
 use Rattle.text.specs.Texts.{Text}
 use Rattle.listings.specs.Listings.{Listing}
-use Rattle.deciding.specs.Requests.{Request}
+use Rattle.decisions.specs.Requests.{Request, request}
 use Rattle.trials.specs.Trials.{trialMethods}
 use Rattle.trials.specs.Loops.{firstSome, shownAt}
 use Rattle.grants.specs.Sides.{everyone, callerAt, rowIn}
@@ -40,4 +40,4 @@ caughtIn sn n so o pairs count a b = caughtFrom (rowIn sn n a) (rowIn so o b) pa
 -- the request that it stands for, on a path
 abbrev pub caughtOn : Listing → Listing → Text → Caught → Option Request
 caughtOn new old p C.Nothing = none
-caughtOn new old p (C.At m c) = some (record { path = p; method = getD (trialMethods new old) m []; caller = callerAt (new .roles) c })
+caughtOn new old p (C.At m c) = some (request p (getD (trialMethods new old) m []) (callerAt (new .roles) c))

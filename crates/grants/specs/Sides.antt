@@ -12,11 +12,11 @@ use Rattle.reading.specs.Sets.{setOf, digit}
 use Rattle.reading.specs.Views.{coverAt, accessAt}
 use Rattle.reading.specs.declared.held.Access.{Access}
 use Rattle.reading.specs.declared.held.Access.the-variants.{Open, Closed, ByRole}
-use Rattle.deciding.specs.Requests.{Caller, nobody}
+use Rattle.decisions.specs.Requests.{Caller, nobody, holder}
 use Rattle.deciding.specs.Strengths.{leading}
 use Rattle.deciding.specs.Joinings.{nothingJoined, joinWith}
-use Rattle.deciding.specs.declared.decisions.Leading.{Leading}
-use Rattle.deciding.specs.declared.decisions.Joined.{Joined}
+use Rattle.deciding.specs.declared.joining.Leading.{Leading}
+use Rattle.deciding.specs.declared.joining.Joined.{Joined}
 use Rattle.trials.specs.Trials.{one, trialMethods}
 
 -- ---- places: 0 where a path has no best match, else the number of its line, from 1
@@ -31,10 +31,11 @@ unfoldable pub placeOf : Listing → Text → ℕ
 unfolding leading patternsOf
 placeOf l path = placeIn (leading (patternsOf l) path)
 
--- ---- callers: 0 is not logged in, i + 1 has role i of new, whose names are ns
+-- ---- callers: 0 is not logged in, 1 is logged in without a role, i + 2 has role i of new, whose names are ns
 abbrev pub callerAt : List Text → ℕ → Caller
 callerAt ns zero = nobody
-callerAt ns (suc i) = one (getD ns i [])
+callerAt ns (suc zero) = holder []
+callerAt ns (suc (suc i)) = one (getD ns i [])
 
 -- all of them
 abbrev pub everyone : ℕ
@@ -48,7 +49,7 @@ renumbered ns os x =
 
 -- whom that which is joined grants
 unfoldable pub granted : Joined → ℕ
-granted j = cond (not (j .any)) everyone (cond (j .closed) 0 (cond (j .free) everyone (2 * (j .roles % 4294967296))))
+granted j = cond (not (j .any)) everyone (cond (j .closed) 0 (cond (j .free) everyone (4 * (j .roles % 4294967296))))
 
 -- with the roles in the numbers of ns
 abbrev pub seenJoined : List Text → Listing → Joined → Joined

@@ -1,12 +1,12 @@
 // Whom a listing grants at a place, method by method, from the table of its side. A set of callers has digit 0 for one who is not logged
-// in, and digit i + 1 for one with role i of new.
+// in, digit 1 for one who is logged in without a role, and digit i + 2 for one with role i of new.
 ghost use mathlib.Core.Path.{_≡_};
 ghost use mathlib.Core.Bool.{cond};
 ghost use Prim.Native.Nat.{_+_, _≤_, _<_};
 ghost use lib.ListN.{length};
 ghost use Rattle.deciding.specs.Joinings.{nothingJoined};
 ghost use Rattle.grants.specs.Sides.{accessIn, joinedAlong, granted, grantsIn, rowIn};
-use deciding::decisions::Joined;
+use deciding::joining::Joined;
 use reading::held::Access;
 use reading::tables;
 
@@ -70,7 +70,7 @@ pub fn callers_of(j: Joined) -> u64
     if free {
         return EVERYONE;
     }
-    2 * (roles % 4294967296)
+    4 * (roles % 4294967296)
 }
 
 // Whom the table grants at a place for method m.

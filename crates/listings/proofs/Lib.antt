@@ -5,6 +5,7 @@
 --   Downward    reading line by line
 -- For the crates above:
 --   Plainly     the kinds of pattern in plain words
+--   Lines       where a `pattern` line comes from
 --   Headers     the first line
 --   Sound       the records of an accepted listing pass every rule
 -- The code, module by module:
@@ -13,6 +14,7 @@
 pub mod Namings
 pub mod Followings
 pub mod Plainly
+pub mod Lines
 pub mod Headers
 pub mod Sound
 pub mod Lineups

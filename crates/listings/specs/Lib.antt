@@ -5,6 +5,7 @@
 --   Limits    the most that a listing may hold
 --   Refusals  the rules that a listing can break, their numbers and their order: what reading answers
 --   Listings  what an accepted listing is: its roles, methods, constraints and collections
+--   Propers   what is known of every accepted listing
 --   Rules     the plain form of the refusals, for the theorem that ties it to Refusals
 -- The last is for the proofs alone, and no public statement rests on a reader's believing it:
 --   Heads     how the code takes a line's head and a record's place
@@ -14,5 +15,6 @@ pub mod Names
 pub mod Limits
 pub mod Refusals
 pub mod Listings
+pub mod Propers
 pub mod Rules
 pub mod Heads

@@ -1,5 +1,4 @@
--- What the crates above know of an accepted listing: its names and patterns are good, few enough, and those that its constraints
--- speak of are among its roles and methods.
+-- Every accepted listing is proper.
 use mathlib.Core.Path.{_≡_, refl, sym, ap, subst, _∙_}
 use mathlib.Core.Bool.{Bool, true, false, not, cond, _&&_, _||_}
 use mathlib.Core.List.{List, [], _∷_, _++_, map, flatMap, List·Memᴰ, List·Memᴰ·not-nil, List·Memᴰ·cases-cons}
@@ -9,13 +8,14 @@ use lib.ListN.{length}
 use lib.Dec.{leb}
 use borrow.Author.Tests.{leb-true}
 use native.Mathlib.Omega.{arith}
-use Rattle.text.specs.Texts.{Text, bytes, same, all, member, known, run, onLast}
+use Rattle.text.specs.Texts.{Text, bytes, same, all, member, known, run, onLast, Once}
 use Rattle.listings.specs.Records.{Record, isKind, isStar, namesRole, namesMethod, fieldsWhere, declaredIn, rolesIn, methodsIn}
 use Rattle.text.specs.Bytes.{between, isText, isToken}
 use Rattle.listings.specs.Names.{madeOf, isName, isRoleName, isMethodName, isPattern, nameFits, patternFits}
 use Rattle.listings.specs.Limits.{count}
 use Rattle.listings.specs.Refusals.{accepted, readingOf}
 use Rattle.listings.specs.Listings.{Collected, Constrained, Listing, PatternLine, adds, constraintsIn, listingIn, recordsOf, listingOf, linesInCollection, linesInConstraint, patternLinesOf, newConstraint, addAllowed, addCollection, addPattern, addMethod, addOmitted, inCollection, patternsOf}
+use Rattle.listings.specs.Propers.{Proper}
 use Rattle.reading.specs.Tables.{tablesOf}
 use Rattle.listings.specs.declared.records.Kind.{Kind}
 use Rattle.listings.specs.declared.records.Kind.the-variants.{Role, Constraint, Allow, Collection, Pattern, Method, Omit, End}
@@ -25,7 +25,7 @@ use Rattle.listings.proofs.Sound.{Sound, sound-none, sound-more, Passes, Few, s
 use Rattle.reading.proofs.Keeping.{Kept, kept}
 use Rattle.listings.proofs.Plainly.{member-append, member-plain}
 use Rattle.text.proofs.Spans.{same-self}
-use Rattle.text.proofs.Indices.{run-snoc, Once, once-distinct}
+use Rattle.text.proofs.Indices.{run-snoc, once-distinct}
 use Rattle.reading.proofs.Rulings.{Pictures, pictures}
 use Rattle.reading.proofs.Loads.{accepted-sound}
 
@@ -321,38 +321,11 @@ each-member P us a t h = each-mem P us a t (member-plain t us .0 h)
 made-most : (class : ℕ → Bool) (lo hi : ℕ) (t : Text) → madeOf class lo hi t ≡ true → length t ≤ hi
 made-most class lo hi t y = leb-true (length t) hi (and-right (leb lo (length t)) (leb (length t) hi) (and-left (between lo hi (length t)) (all class t) y))
 
-made-least : (class : ℕ → Bool) (lo hi : ℕ) (t : Text) → madeOf class lo hi t ≡ true → lo ≤ length t
-made-least class lo hi t y = leb-true lo (length t) (and-left (leb lo (length t)) (leb (length t) hi) (and-left (between lo hi (length t)) (all class t) y))
-
 pattern-short : (t : Text) → isPattern t ≡ true → length t ≤ 255
 unfolding isPattern
 pattern-short t h = made-most isText 0 255 t (and-left (madeOf isText 0 255 t) _ h)
 
-method-some : (m : Text) → isMethodName m ≡ true → 1 ≤ length m
-unfolding isMethodName
-method-some m h = made-least isToken 1 24 m h
-
 -- what every accepted listing satisfies
-pub record Proper (l : Listing) : Type 0 where
-  -- the patterns
-  pub few-patterns : length (patternsOf l) ≤ 128
-  pub good-patterns : (t : Text) → List·Memᴰ t (patternsOf l) → isPattern t ≡ true
-  pub short-patterns : (t : Text) → List·Memᴰ t (patternsOf l) → length t ≤ 255
-  -- the methods: what a rule's collection names is one of them
-  pub few-methods : length (l .methods) ≤ 31
-  pub methods-once : Once (l .methods)
-  pub good-methods : (m : Text) → member m (l .methods) ≡ true → isMethodName m ≡ true
-  pub methods-named : (m : Text) → member m (l .methods) ≡ true → 1 ≤ length m
-  pub methods-listed : (r : PatternLine) → List·Memᴰ r (patternLinesOf l) → (m : Text) → member m (r .collection .methods) ≡ true → member m (l .methods) ≡ true
-  pub omitted-listed : (r : PatternLine) → List·Memᴰ r (patternLinesOf l) → (m : Text) → member m (r .collection .omitted) ≡ true → member m (l .methods) ≡ true
-  -- the roles: what is declared, and what a rule's constraint allows, `*` aside, is one of them
-  pub few-roles : length (l .roles) ≤ 32
-  pub roles-once : Once (l .roles)
-  pub good-roles : (n : Text) → member n (l .roles) ≡ true → isRoleName n ≡ true
-  pub declared-listed : (n : Text) → member n (l .declared) ≡ true → member n (l .roles) ≡ true
-  pub allowed-listed : (r : PatternLine) → List·Memᴰ r (patternLinesOf l) → (n : Text) → same n (bytes "*") ≡ false
-      → member n (r .constraint .allowed) ≡ true → member n (l .roles) ≡ true
-
 proper : (l : Listing) → Grounds l → Proper l
 unfolding isStar
 proper l g =
@@ -363,7 +336,6 @@ proper l g =
       few-methods = g .few-methods;
       methods-once = g .methods-once;
       good-methods = each-member (λ (m : Text). isMethodName m ≡ true) (l .methods) (g .methods);
-      methods-named = λ m h. method-some m (each-member (λ (m : Text). isMethodName m ≡ true) (l .methods) (g .methods) m h);
       methods-listed = λ r i. each-member (λ (m : Text). member m (l .methods) ≡ true) (r .collection .methods) (rule r i .collection .methods);
       omitted-listed = λ r i. each-member (λ (m : Text). member m (l .methods) ≡ true) (r .collection .omitted) (rule r i .collection .omitted);
       few-roles = g .few-roles;

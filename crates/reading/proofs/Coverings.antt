@@ -7,12 +7,12 @@ use native.Mathlib.Omega.{arith}
 use lib.ListN.{length, getD, length-append}
 use lib.Dec.{eqb, ltb}
 use lib.Bits.{bitOr}
-use Rattle.text.specs.Texts.{Text, bytes, same, member, indexOf}
+use Rattle.text.specs.Texts.{Text, bytes, same, member, indexOf, Once}
 use Rattle.listings.specs.Records.{isStar}
 use Rattle.listings.specs.Listings.{Collected, Constrained, isEmpty, covers, addMethod, addOmitted, addAllowed, newConstraint}
 use Rattle.reading.specs.Sets.{setOf, withMember, withoutMember, everything, lowest}
 use Rattle.text.proofs.Spans.{same-equal}
-use Rattle.text.proofs.Indices.{Once, stands, stands-named, front-members, Begins}
+use Rattle.text.proofs.Indices.{stands, stands-named, front-members, Begins}
 use Rattle.reading.proofs.Digits.{set-same, set-or, set-none, set-low, set-all, set-with, set-without}
 use Rattle.reading.specs.Views.{admits}
 

@@ -6,7 +6,7 @@ use Prim.Native.Nat.{ℕ, _+_, _≤_}
 use native.Mathlib.Omega.{arith}
 use lib.ListN.{length, length-map}
 use lib.Bits.{bitOr}
-use Rattle.text.specs.Texts.{Text, bytes, same, run, onLast, indexOf}
+use Rattle.text.specs.Texts.{Text, bytes, same, run, onLast, indexOf, Once}
 use Rattle.listings.specs.Records.{Record, mayFollow, isAmong, isKind, isStar, fieldsWhere, namesRole, namesMethod, declaredIn, rolesIn, methodsIn}
 use Rattle.listings.specs.Names.{nameFits, isMethodName}
 use Rattle.listings.specs.Listings.{Collected, Constrained, isEmpty, covers, addMethod, addOmitted, addAllowed, inCollection, newConstraint, adds, constraintsIn}
@@ -20,7 +20,7 @@ use Rattle.listings.specs.declared.records.Kind.the-variants.{Role, Constraint,
 use Rattle.listings.specs.declared.records.Place.{Place}
 use Rattle.listings.specs.declared.records.Place.the-variants.{AfterFirst, AfterRole, AfterOpen, AfterAuth, AfterAllow, AfterCollection, AfterPattern, AfterMethod, AfterOmit, AfterEnd}
 use Rattle.text.proofs.Truths.{never}
-use Rattle.text.proofs.Indices.{run-snoc, Once, once-distinct, Begins, begins-front}
+use Rattle.text.proofs.Indices.{run-snoc, once-distinct, Begins, begins-front}
 use Rattle.reading.proofs.Regions.{on-last-snoc}
 use Rattle.reading.proofs.Countings.{declared-snoc, tables-snoc}
 use Rattle.listings.proofs.Sound.{Passes, Sound, sound-none, sound-more, sound-few}

@@ -2,14 +2,15 @@
 use mathlib.Core.Path.{_≡_, refl, sym, ap, _∙_}
 use mathlib.Core.Bool.{Bool, true, false, cond, _&&_, _||_, or-true}
 use mathlib.Core.List.{List, [], _∷_, _++_, append-assoc}
-use Prim.Native.Nat.{ℕ, zero, suc, _≤_, _<_}
+use Prim.Native.Nat.{ℕ, zero, suc, _+_, _≤_, _<_}
+use native.Mathlib.Numerals.{add-one}
 use native.Mathlib.Omega.{arith}
 use native.Mathlib.Decide.{decLt}
-use lib.ListN.{length, getD, length-append, List·getD-append, List·getD-eq-default}
-use lib.Seq.{getD-append-seam}
+use lib.ListN.{length, take, getD, length-append, List·getD-append, List·getD-eq-default}
+use lib.Seq.{getD-append-seam, take-suc}
 use lib.Dec.{eqb, ltb, leb·suc-suc, leb·zero}
 use borrow.Author.Tests.{ltb-true, ltb-false, lt-ltb, le-ltb, eq-eqb, ne-eqb}
-use Rattle.text.specs.Texts.{Text, same, member, known, run, distinct, indexOf}
+use Rattle.text.specs.Texts.{Text, same, member, known, run, distinct, indexOf, Once}
 use Rattle.text.proofs.Truths.{never, not-so}
 use Rattle.text.proofs.Spans.{same-equal, same-self}
 
@@ -19,6 +20,11 @@ pub run-snoc {ℓ κ} : {S : Type ℓ} {A : Type κ} (f : S → A → S) (z : S)
 unfolding run
 run-snoc f z [] x = refl
 run-snoc f z (y ∷ ys) x = run-snoc f (f z y) ys x
+
+-- over one element more of a list
+pub run-step {ℓ κ} : {S : Type ℓ} {A : Type κ} (f : S → A → S) (z : S) (xs : List A) (i : ℕ) (d : A) → i < length xs
+    → run f z (take (i + 1) xs) ≡ f (run f z (take i xs)) (getD xs i d)
+run-step f z xs i d h = rw (add-one i, take-suc xs i d h) (run-snoc f z (take i xs) (getD xs i d))
 
 -- one element more is one more
 pub length-snoc {ℓ} : {A : Type ℓ} (xs : List A) (x : A) → length (xs ++ x ∷ []) ≡ suc (length xs)
@@ -87,9 +93,6 @@ member-at (u ∷ us) zero h = rw (same-self u)
 member-at (u ∷ us) (suc i) h = rw (member-at us i (omega arith)) (or-true (same u (getD us i [])))
 
 -- ---- texts that stand once each
-abbrev pub Once : List Text → Type 0
-Once us = (i : ℕ) → i < length us → indexOf (getD us i []) us ≡ i
-
 -- one more
 once-known : (us : List Text) (t : Text) → Once us → Once (known us t)
 unfolding known

@@ -1,25 +1,84 @@
--- The answer's text tells the verdict: two answers with the same bytes show the same request, or both show none.
+-- The answer's text fits its buffer and tells the verdict: two answers with the same bytes show the same request, or both show none.
 use mathlib.Core.Path.{_≡_, refl, sym, ap, _∙_}
 use mathlib.Core.Bool.{Bool, true, false}
-use mathlib.Core.List.{[], _∷_, _++_, append-assoc}
+use mathlib.Core.List.{[], _∷_, _++_, append-assoc, List·Memᴰ·head, Memᴰ·append-right}
 use mathlib.Core.Logic.{inl, inr}
 use mathlib.Core.Option.{Option, none, some}
-use Prim.Native.Nat.{ℕ}
+use Prim.Native.Nat.{ℕ, _+_, _≤_}
 use native.Mathlib.Omega.{arith}
-use lib.ListN.{length, getD, drop}
-use Rattle.text.specs.Texts.{Text, bytes, newline, all, startsWith}
+use lib.ListN.{length, length-append, getD, drop}
+use Rattle.text.specs.Texts.{Text, bytes, tab, newline, all, startsWith}
 use Rattle.text.specs.Bytes.{isText, isToken}
 use Rattle.listings.specs.Names.{madeOf, isRoleName, isMethodName}
-use Rattle.listings.specs.Refusals.{accepted, readingOf}
-use Rattle.listings.specs.Listings.{listingOf}
+use Rattle.listings.specs.Listings.{Listing}
+use Rattle.listings.specs.Propers.{Proper}
 use Rattle.text.proofs.Truths.{never, and-left, and-right}
-use Rattle.deciding.specs.Requests.{Caller, Request, isPath, isMethod}
+use Rattle.decisions.specs.Requests.{Caller, Request, request, isPath, isMethod}
 use Rattle.trials.specs.Trials.{one}
-use Rattle.trials.specs.Verdicts.{WellFormed, verdict, NobodyOrOne}
+use Rattle.trials.specs.Verdicts.{WellFormed, verdict}
 use Rattle.trials.specs.Answers.{lineOf, callerFields, answerOf}
+use Rattle.trials.specs.Demands.{NobodyOrOne, AnswerFits, AnswerTells}
 use Rattle.trials.proofs.Insides.{cons-same}
-use Rattle.trials.proofs.Bounds.{made-bytes, role-made}
-use Rattle.trials.proofs.NoWider.{wider, no-wider-length, wider-length}
+use Rattle.trials.proofs.Bounds.{made-short, made-bytes, role-made, path-short}
+use Rattle.trials.proofs.Widenings.{trial-parts}
+use Rattle.trials.proofs.NoWider.{wider}
+
+-- ---- how long the lines are
+line-two : (f g : Text) → length (lineOf (f ∷ g ∷ [])) ≡ length f + length g + 2
+unfolding lineOf
+line-two f g = length-append f (tab ∷ (g ++ newline ∷ [])) ∙ rw (length-append g (newline ∷ [])) (omega arith)
+
+line-three : (f g h : Text) → length (lineOf (f ∷ g ∷ h ∷ [])) ≡ length f + length g + length h + 3
+unfolding lineOf
+line-three f g h = length-append f (tab ∷ lineOf (g ∷ h ∷ [])) ∙ rw (line-two g h) (omega arith)
+
+caller-short : (c : Caller) → NobodyOrOne c → length (lineOf (callerFields c)) ≤ 77
+caller-short c (inl e) = rw (e, line-two (bytes "caller") (bytes "none")) (omega arith)
+caller-short c (inr r) =
+    let l = made-short isText 1 64 (r .0) (role-made (r .0) (r .2)) in
+    rw (r .1, line-three (bytes "caller") (bytes "role") (r .0)) (omega arith)
+
+method-short : (m : Text) → isMethod m ≡ true → length m ≤ 24
+unfolding isMethodName
+method-short m h = made-short isToken 1 24 m h
+
+answer-length : (r : Request) → length (answerOf (some r)) ≡ 28 + length (r .path) + length (r .method) + length (lineOf (callerFields (r .caller)))
+unfolding answerOf
+answer-length r =
+    let v : Text = lineOf (bytes "verdict" ∷ bytes "wider" ∷ []) in
+    let p : Text = lineOf (bytes "path" ∷ r .path ∷ []) in
+    let m : Text = lineOf (bytes "method" ∷ r .method ∷ []) in
+    let c : Text = lineOf (callerFields (r .caller)) in
+    let a = length-append (v ++ p ++ m) c in
+    let b = length-append (v ++ p) m in
+    let d = length-append v p in
+    let e = line-two (bytes "verdict") (bytes "wider") in
+    let f = line-two (bytes "path") (r .path) in
+    let g = line-two (bytes "method") (r .method) in
+    omega arith
+
+-- the answer that shows none has 17 bytes
+pub no-wider-length : length (answerOf none) ≡ 17
+unfolding answerOf
+no-wider-length = line-two (bytes "verdict") (bytes "no wider")
+
+-- and one that shows a request has more
+pub wider-length : (r : Request) → 28 ≤ length (answerOf (some r))
+wider-length r = rw (answer-length r) (omega arith)
+
+-- the answer has 646 bytes at most
+pub answer-fits : (new old : Listing) → Proper new → Proper old → AnswerFits new old
+answer-fits new old N O = go (verdict new old) refl
+  where
+    go : (v : Option Request) → verdict new old ≡ v → length (answerOf v) ≤ 1024
+    go none e = rw no-wider-length (omega arith)
+    go (some r) e =
+        let S = wider new old N O r e in
+        let T = trial-parts new old r (rw (S .split) (Memᴰ·append-right (S .before) (List·Memᴰ·head refl))) in
+        let p = path-short new old N O (r .path) (T .path-in) in
+        let m = method-short (r .method) (S .formed .method) in
+        let c = caller-short (r .caller) (S .caller) in
+        rw (answer-length r) (omega arith)
 
 -- ---- a byte 10 ends a field of a class that it is not in
 -- so equal texts have equal fields, and the same behind them
@@ -87,7 +146,7 @@ request-tells r q F G c d e =
     line-cut isToken newline-no-token (r .method) (q .method) (lineOf (callerFields (r .caller))) (lineOf (callerFields (q .caller)))
     (method-bytes (r .method) (F .method)) (method-bytes (q .method) (G .method)) (ap (drop 7) (p .1)) in
     let k = caller-tells (r .caller) (q .caller) c d (m .1) in
-    λ i. record { path = p .0 i; method = m .0 i; caller = k i }
+    λ i. request (p .0 i) (m .0 i) (k i)
 
 -- and are never the one line
 pub none-tells : (r : Request) → answerOf none ≡ answerOf (some r) → ⊥
@@ -96,18 +155,15 @@ none-tells r e =
     let n : length (answerOf (some r)) ≡ 17 = sym (ap length e) ∙ no-wider-length in
     omega arith
 
--- ---- of two pairs of accepted listings
-module _ (old new old′ new′ : Text) (o : readingOf old ≡ accepted) (n : readingOf new ≡ accepted) (o′ : readingOf old′ ≡ accepted) (n′ : readingOf new′ ≡ accepted) where
-  -- equal answers, equal verdicts
-  pub answer-tells : answerOf (verdict (listingOf new) (listingOf old)) ≡ answerOf (verdict (listingOf new′) (listingOf old′))
-      → verdict (listingOf new) (listingOf old) ≡ verdict (listingOf new′) (listingOf old′)
-  answer-tells = go (verdict (listingOf new) (listingOf old)) (verdict (listingOf new′) (listingOf old′)) refl refl
-    where
-      go : (v v′ : Option Request) → verdict (listingOf new) (listingOf old) ≡ v → verdict (listingOf new′) (listingOf old′) ≡ v′ → answerOf v ≡ answerOf v′ → v ≡ v′
-      go none none e f h = refl
-      go none (some q) e f h = absurd (none-tells q h)
-      go (some r) none e f h = absurd (none-tells r (sym h))
-      go (some r) (some q) e f h =
-          let S = wider old new o n r e in
-          let T = wider old′ new′ o′ n′ q f in
-          ap some (request-tells r q (S .formed) (T .formed) (S .caller) (T .caller) h)
+-- ---- equal answers, equal verdicts
+pub answer-tells : (new old new′ old′ : Listing) → Proper new → Proper old → Proper new′ → Proper old′ → AnswerTells new old new′ old′
+answer-tells new old new′ old′ N O N′ O′ = go (verdict new old) (verdict new′ old′) refl refl
+  where
+    go : (v v′ : Option Request) → verdict new old ≡ v → verdict new′ old′ ≡ v′ → answerOf v ≡ answerOf v′ → v ≡ v′
+    go none none e f h = refl
+    go none (some q) e f h = absurd (none-tells q h)
+    go (some r) none e f h = absurd (none-tells r (sym h))
+    go (some r) (some q) e f h =
+        let S = wider new old N O r e in
+        let T = wider new′ old′ N′ O′ q f in
+        ap some (request-tells r q (S .formed) (T .formed) (S .caller) (T .caller) h)

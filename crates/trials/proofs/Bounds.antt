@@ -17,17 +17,17 @@ use Rattle.listings.specs.Listings.{Listing, patternsOf}
 use Rattle.text.proofs.Truths.{never, and-left, and-right, and-both, or-left, or-right}
 use Rattle.text.proofs.Classes.{text-no-newline}
 use Rattle.listings.proofs.Plainly.{member-plain, member-append}
-use Rattle.reading.proofs.Accepted.{Proper}
-use Rattle.deciding.specs.Requests.{Caller, nobody, Request, isPath, allHeld, callerOf}
-use Rattle.trials.specs.Fillers.{firstNumber, fills, filler, isUnnamed, fillerMethod, fillerOf, fillerMethodOf}
-use Rattle.trials.specs.Trials.{further, joined, trialPaths, trialMethods, one, trialNames, trialCallers}
-use Rattle.trials.specs.Verdicts.{WellFormed, NobodyOrOne}
+use Rattle.listings.specs.Propers.{Proper}
+use Rattle.decisions.specs.Requests.{Caller, nobody, Request, isPath, allHeld, callerOf}
+use Rattle.trials.specs.Fillers.{firstNumber, fills, filler, isUnnamed, fillerMethod, fillerOf, fillerMethodOf, First, Filler}
+use Rattle.trials.specs.Trials.{joined, trialPaths, trialMethods, one, trialNames, trialCallers}
+use Rattle.trials.specs.Verdicts.{WellFormed}
+use Rattle.trials.specs.Demands.{NobodyOrOne}
 use Rattle.trials.proofs.Insides.{or-first, or-second}
-use Rattle.trials.proofs.StandIns.{rooted, Filler}
+use Rattle.trials.proofs.StandIns.{rooted}
 use Rattle.trials.proofs.Forms.{Form, trial-form, form-rooted, form-short, form-bytes}
-use Rattle.trials.proofs.Pigeons.{First}
 use Rattle.trials.proofs.FillersExist.{total, filler-is-first, filler-fills, filler-short, filler-bytes, method-is-first, method-unnamed, method-short, method-bytes}
-use Rattle.trials.proofs.Choices.{further-length, joined-of}
+use Rattle.trials.proofs.Choices.{joined-of}
 
 -- ---- sums
 total-append : (s t : List Text) → total (s ++ t) ≡ total s + total t

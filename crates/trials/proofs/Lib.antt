@@ -1,18 +1,18 @@
 -- The theorems about the trials. For the customer:
---   NoWider         the verdict is right over all requests, and the answer fits its buffer
---   AnswersTell     the answer's text tells the verdict
+--   NoWider         the verdict is right over all requests
+--   AnswersTell     the answer's text fits its buffer and tells the verdict
 -- What it leans on:
 --   Insides         tests on texts
 --   Unders          what lies below what
 --   Endings         extensions
 --   Findings        the largest that passes
---   Choices         lists made for each, joined, and the first that passes
+--   Choices         lists joined, and the first that passes
 --   StandIns        every path has a trial path that the same pattern texts match
 --   Forms           what a trial path looks like
 --   Pigeons         more texts than places
 --   Decimals        numbers in decimal
 --   FillersExist    the filler and the filler method exist
---   Alikes          what deciding makes of paths and methods that are alike
+--   Alikes          paths that the same patterns match
 --   Bounds          the trials are requests that a call can ask
 --   Widenings       a request that widens has a trial that widens
 -- The verdict as a program finds it:

@@ -1,16 +1,24 @@
--- The loops find the verdict: for each trial path, for each trial method, the first caller by the roles that new admits and old does not.
-use mathlib.Core.Path.{_≡_, refl, ap, ap₂, fun-ext, _∙_}
-use mathlib.Core.Bool.{Bool, true, false, not, cond, _&&_, or-false, and-false}
-use mathlib.Core.List.{List, [], _∷_, _++_, map, flatMap}
+-- The loops find the verdict: for each trial path, for each trial method, the first caller by whom each listing admits there.
+use mathlib.Core.Path.{_≡_, refl, ap, fun-ext, _∙_}
+use mathlib.Core.Bool.{Bool, true, false, not, cond}
+use mathlib.Core.List.{List, [], _∷_, _++_, map, flatMap, map-append, List·Memᴰ}
 use mathlib.Core.Option.{Option, none, some, Option·map}
-use Rattle.text.specs.Texts.{Text, member, first}
-use Rattle.listings.specs.Listings.{Listing}
-use Rattle.deciding.specs.Requests.{Caller}
-use Rattle.deciding.specs.Decisions.{Combined, combinedOpen, combinedClosed, union, combinedFor, answerTo, decide, isGrant}
-use Rattle.trials.specs.Trials.{one, trialNames, trialPaths, trialMethods, trialCallers, trials}
+use borrow.Author.Tests.{not-true}
+use Rattle.text.specs.Texts.{Text, first}
+use Rattle.listings.specs.Listings.{Listing, patternsOf}
+use Rattle.listings.specs.Propers.{Proper}
+use Rattle.text.proofs.Truths.{never, not-so, and-left, and-right, and-both}
+use Rattle.listings.proofs.Plainly.{member-plain}
+use Rattle.decisions.specs.Matching.{best}
+use Rattle.decisions.specs.Requests.{Caller, request}
+use Rattle.decisions.specs.Combining.{Access, hasRole}
+use Rattle.decisions.specs.Decisions.{combinedFor, decide, may}
+use Rattle.decisions.proofs.Takings.{role-named}
+use Rattle.trials.specs.Trials.{joined, further, callersWith, one, trialNames, trialCallers, trialMethods, trialPaths, atMethod, atPath, trials}
 use Rattle.trials.specs.Verdicts.{widens, verdict}
-use Rattle.trials.specs.Loops.{orElse, firstSome, freshRole, shownCaller, shownAt, shown}
-use Rattle.trials.proofs.Widenings.{one-grants}
+use Rattle.trials.specs.Loops.{orElse, firstSome, isFresh, shownAt, shown}
+use Rattle.trials.proofs.Choices.{first-none, none-first}
+use Rattle.trials.proofs.Widenings.{StandsFor, caller-for, denied-too}
 
 -- ---- the first that passes, of lists made of others
 first-append : {A : Type 0} (test : A → Bool) (xs ys : List A) → first test (xs ++ ys) ≡ orElse (first test xs) (first test ys)
@@ -43,54 +51,50 @@ first-map {A} {B} test g (x ∷ xs) = go (test (g x)) (first-map test g xs)
     go true ih = refl
     go false ih = ih
 
--- tests, or answers, that are the same for each
-first-alike : {A : Type 0} (f g : A → Bool) → ((x : A) → f x ≡ g x) → (xs : List A) → first f xs ≡ first g xs
-unfolding first
-first-alike f g h [] = refl
-first-alike f g h (x ∷ xs) = rw (h x, first-alike f g h xs)
-
+-- answers that are the same for each
 some-alike : {A B : Type 0} (f g : A → Option B) → ((x : A) → f x ≡ g x) → (xs : List A) → firstSome f xs ≡ firstSome g xs
 some-alike f g h xs = ap (λ (k : _ → Option _). firstSome k xs) (fun-ext h)
 
-never-first : {A : Type 0} (f : A → Bool) → ((x : A) → f x ≡ false) → (xs : List A) → first f xs ≡ none
-unfolding first
-never-first f h [] = refl
-never-first f h (x ∷ xs) = rw (h x) (never-first f h xs)
+-- what stands behind a list, where none of it passes that none before it does, is no matter
+first-front : {A : Type 0} (test : A → Bool) (xs ys : List A) → (first test xs ≡ none → first test ys ≡ none) → first test (xs ++ ys) ≡ first test xs
+first-front {A} test xs ys h = first-append test xs ys ∙ go (first test xs) refl
+  where
+    go : (o : Option A) → first test xs ≡ o → orElse o (first test ys) ≡ o
+    go none e = h e
+    go (some x) e = refl
 
--- ---- the caller
--- c is granted by the one and not by the other
-abbrev anew : Combined → Combined → Caller → Bool
-anew a b c = isGrant (answerTo a c) && not (isGrant (answerTo b c))
+-- ---- names that only old has are never shown: who holds one and is granted anew has one before him who stands in
+fresh-too : (a b : Access) (c x : Caller) (ns : List Text) → StandsFor a ns c x → isFresh a b c ≡ true → isFresh a b x ≡ true
+unfolding isFresh
+fresh-too a b c x ns S h =
+    and-both (may a x) (not (may b x)) (S .may-too)
+    (ap not (denied-too b c x (S .below) (not-true (may b c) (and-right (may a c) (not (may b c)) h))))
 
--- the first caller who is granted anew is the one to show
-pub caller-shown : (a b : Combined) (new old : Listing) → first (anew a b) (trialCallers new old) ≡ shownCaller a b (trialNames new old)
-unfolding trialCallers shownCaller freshRole answerTo first member
-caller-shown combinedClosed b new old = never-first (λ (c : Caller). false) (λ c. refl) (map one (trialNames new old))
-caller-shown combinedOpen combinedClosed new old = refl
-caller-shown combinedOpen combinedOpen new old = never-first (λ (c : Caller). false) (λ c. refl) (map one (trialNames new old))
-caller-shown combinedOpen (union os) new old = refl
-caller-shown (union rs) combinedClosed new old =
-    first-map (anew (union rs) combinedClosed) one (trialNames new old)
-    ∙ ap (Option·map one) (first-alike (λ (n : Text). anew (union rs) combinedClosed (one n)) (λ (n : Text). member n rs && true)
-    (λ n. ap (λ (x : Bool). x && true) (one-grants rs n ∙ or-false (member n rs))) (trialNames new old))
-caller-shown (union rs) combinedOpen new old =
-    never-first (anew (union rs) combinedOpen) (λ c. and-false (isGrant (answerTo (union rs) c))) (map one (trialNames new old))
-caller-shown (union rs) (union os) new old =
-    first-map (anew (union rs) (union os)) one (trialNames new old)
-    ∙ ap (Option·map one) (first-alike (λ (n : Text). anew (union rs) (union os) (one n)) (λ (n : Text). member n rs && not (member n os))
-    (λ n. ap₂ (λ (x y : Bool). x && not y) (one-grants rs n ∙ or-false (member n rs)) (one-grants os n ∙ or-false (member n os))) (trialNames new old))
+names-of-new : (a b : Access) (ns os : List Text) → ((n : Text) → hasRole a n ≡ true → List·Memᴰ n ns) → first (isFresh a b) (callersWith (ns ++ os)) ≡ first (isFresh a b) (callersWith ns)
+unfolding isFresh
+names-of-new a b ns os known =
+    ap (λ (cs : List Caller). first (isFresh a b) (callersWith [] ++ cs)) (map-append one ns os)
+    ∙ first-front (isFresh a b) (callersWith ns) (map one os) (λ e. none-first (isFresh a b) (map one os) (λ c i. not-so (isFresh a b c) (λ h. found e c h)))
+  where
+    found : first (isFresh a b) (callersWith ns) ≡ none → (c : Caller) → isFresh a b c ≡ true → ⊥
+    found e c h =
+        let S = caller-for a ns known c (and-left (may a c) _ h) in
+        never (isFresh a b (S .0)) (fresh-too a b c (S .0) ns (S .1) h) (first-none (isFresh a b) (callersWith ns) e (S .0) (S .1 .listed))
 
 -- ---- the verdict
-module _ (new old : Listing) where
-  at-shown : (p m : Text) → first (widens new old) (map (λ (c : Caller). record { path = p; method = m; caller = c }) (trialCallers new old)) ≡ shownAt new old p m
-  unfolding widens decide shownAt
+module _ (new old : Listing) (N : Proper new) where
+  at-shown : (p m : Text) → first (widens new old) (atMethod (trialCallers new old) p m) ≡ shownAt new old p m
+  unfolding widens decide isFresh shownAt trialCallers trialNames joined combinedFor
   at-shown p m =
-      first-map (widens new old) (λ (c : Caller). record { path = p; method = m; caller = c }) (trialCallers new old)
-      ∙ ap (Option·map (λ (c : Caller). record { path = p; method = m; caller = c })) (caller-shown (combinedFor new p m) (combinedFor old p m) new old)
+      first-map (widens new old) (request p m) (trialCallers new old)
+      ∙ ap (Option·map (request p m)) (names-of-new (combinedFor new p m) (combinedFor old p m) (new .roles) (further (new .roles) (old .roles)) named)
+    where
+      named : (n : Text) → hasRole (combinedFor new p m) n ≡ true → List·Memᴰ n (new .roles)
+      named n h = member-plain n (new .roles) .0 (role-named new N m n (best (patternsOf new) p) h)
+
+  pub path-shown : (p : Text) → first (widens new old) (atPath (trialCallers new old) (trialMethods new old) p) ≡ firstSome (λ (m : Text). shownAt new old p m) (trialMethods new old)
+  path-shown p = first-flat (widens new old) (atMethod (trialCallers new old) p) (trialMethods new old) ∙ some-alike _ _ (at-shown p) (trialMethods new old)
 
   pub verdict-shown : verdict new old ≡ shown new old
   unfolding verdict trials shown
-  verdict-shown =
-      first-flat (widens new old) (λ (p : Text). flatMap (λ (m : Text). map (λ (c : Caller). record { path = p; method = m; caller = c }) (trialCallers new old)) (trialMethods new old)) (trialPaths new old)
-      ∙ some-alike _ _ (λ p. first-flat (widens new old) (λ (m : Text). map (λ (c : Caller). record { path = p; method = m; caller = c }) (trialCallers new old)) (trialMethods new old)
-      ∙ some-alike _ _ (at-shown p) (trialMethods new old)) (trialPaths new old)
+  verdict-shown = first-flat (widens new old) (atPath (trialCallers new old) (trialMethods new old)) (trialPaths new old) ∙ some-alike _ _ path-shown (trialPaths new old)

@@ -2,7 +2,7 @@
 use mathlib.Core.List.{List, [], _∷_, _++_}
 use mathlib.Core.Option.{Option, none, some}
 use Rattle.text.specs.Texts.{Text, bytes, tab, newline}
-use Rattle.deciding.specs.Requests.{Caller, nobody, holder, Request}
+use Rattle.decisions.specs.Requests.{Caller, nobody, holder, Request}
 
 -- fields parted by one tab, and the byte 10 that ends a line
 unfoldable pub lineOf : List Text → Text

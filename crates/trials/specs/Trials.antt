@@ -4,7 +4,7 @@ use mathlib.Core.List.{List, [], _∷_, _++_, map, flatMap}
 use Rattle.text.specs.Texts.{Text, slash, dot, member}
 use Rattle.listings.specs.Patterns.{PatternKind, exact, prefix, extension, default, unpermitted, kindOf}
 use Rattle.listings.specs.Listings.{Listing, patternsOf}
-use Rattle.deciding.specs.Requests.{Caller, nobody, holder, Request}
+use Rattle.decisions.specs.Requests.{Caller, nobody, holder, Request, request}
 use Rattle.trials.specs.Fillers.{fillerOf, fillerMethodOf}
 
 -- ---- "Trial paths, taking the `pattern` lines of the new listing and then the old in order"
@@ -78,17 +78,20 @@ unfoldable pub trialNames : Listing → Listing → List Text
 unfolding joined
 trialNames new old = joined (new .roles) (old .roles)
 
+abbrev pub callersWith : List Text → List Caller
+callersWith ns = nobody ∷ map one ns
+
 unfoldable pub trialCallers : Listing → Listing → List Caller
 unfolding trialNames
-trialCallers new old = nobody ∷ map one (trialNames new old)
+trialCallers new old = callersWith (trialNames new old)
 
 -- ---- "Paths vary slowest, callers fastest."
+abbrev pub atMethod : List Caller → Text → Text → List Request
+atMethod cs p m = map (request p m) cs
+
+abbrev pub atPath : List Caller → List Text → Text → List Request
+atPath cs ms p = flatMap (atMethod cs p) ms
+
 unfoldable pub trials : Listing → Listing → List Request
 unfolding flatMap trialPaths trialMethods trialCallers
-trials new old =
-    flatMap (λ (p : Text).
-    flatMap (λ (m : Text).
-    map (λ (c : Caller). record { path = p; method = m; caller = c })
-    (trialCallers new old))
-    (trialMethods new old))
-    (trialPaths new old)
+trials new old = flatMap (atPath (trialCallers new old) (trialMethods new old)) (trialPaths new old)

@@ -10,8 +10,8 @@ use Rattle.text.specs.Texts.{Text, bytes, slash, dot, has, startsWith}
 use Rattle.listings.specs.Patterns.{prefix, extension, kindOf, Shape}
 use Rattle.listings.specs.Listings.{Listing, patternsOf}
 use Rattle.listings.proofs.Plainly.{shape}
-use Rattle.reading.proofs.Accepted.{Proper}
-use Rattle.deciding.specs.Matching.{isUnder}
+use Rattle.listings.specs.Propers.{Proper}
+use Rattle.decisions.specs.Matching.{isUnder}
 use Rattle.deciding.specs.Strengths.{leading}
 use Rattle.deciding.proofs.Strengths.{at-listed}
 use Rattle.trials.specs.Fillers.{fillerOf}
@@ -26,7 +26,7 @@ use Rattle.walks.specs.declared.walking.Hit.{Hit}
 use Rattle.walks.specs.declared.walking.Hit.the-variants as H
 use Rattle.trials.proofs.Unders.{under-root}
 use Rattle.trials.proofs.Endings.{extension-bytes}
-use Rattle.trials.proofs.StandIns.{Filler}
+use Rattle.trials.specs.Fillers.{Filler}
 use Rattle.trials.proofs.Forms.{extension-of}
 use Rattle.trials.proofs.Bounds.{filler-of-fills}
 use Rattle.trials.proofs.Turns.{turn-found, turn-on, turn-ends}

@@ -15,13 +15,14 @@ use Rattle.text.specs.Texts.{Text, bytes, slash, star, same, has, startsWith, e
 use Rattle.listings.specs.Names.{isPattern}
 use Rattle.listings.specs.Patterns.{PatternKind, exact, prefix, extension, default, unpermitted, isExtension, kindOf, isPermitted, Shape}
 use Rattle.listings.specs.Listings.{Listing, listingOf, patternsOf}
+use Rattle.listings.specs.Propers.{Proper}
 use Rattle.reading.specs.Holds.{Holds}
 use Rattle.reading.specs.declared.tables.Tally.{Tally}
 use Rattle.text.proofs.Truths.{never, and-left, and-right}
 use Rattle.text.proofs.Spans.{same-equal, same-self}
 use Rattle.listings.proofs.Plainly.{shape, starts-plain}
 use Rattle.reading.proofs.Accepted.{accepted-proper}
-use Rattle.deciding.specs.Requests.{Request}
+use Rattle.decisions.specs.Requests.{Request}
 use Rattle.deciding.proofs.Strengths.{at-listed}
 use Rattle.trials.specs.Fillers.{fillerOf}
 use Rattle.trials.specs.Trials.{below, extensions, pathsOfKind, pathsFor, trialPaths}
@@ -196,24 +197,24 @@ module _ {new old : Listing} {sn so pairs : List ℕ} {count : ℕ} {f : Text} {
     walked-none h = sym (W .left ∙ turn-ends (lineShown new old f) (textsOf new old) j (let z = W .lines .all in omega arith))
 
 -- ---- all trial paths
-verdict-by-lines : (new old : Listing) (f : Text) → f ≡ fillerOf new old
+verdict-by-lines : (new old : Listing) → Proper new → (f : Text) → f ≡ fillerOf new old
     → verdict new old ≡ orElse (firstSome (lineShown new old f) (textsOf new old)) (shownOn new old (below [] f))
 unfolding shown shownOn trialPaths pathsFor
-verdict-by-lines new old f e =
-    verdict-shown new old ∙ rw (← e) (paths-by-lines (shownOn new old) f (extensions (textsOf new old)) (textsOf new old))
+verdict-by-lines new old N f e =
+    verdict-shown new old N ∙ rw (← e) (paths-by-lines (shownOn new old) f (extensions (textsOf new old)) (textsOf new old))
 
-module _ {new old : Listing} {sn so pairs : List ℕ} {count : ℕ} {f : Text} {table : List ℕ} {all : ℕ} {b : Text} (W : Walk new old sn so pairs count f table all b)
-    (b₁ : Text) (h : Hit) (tried : hitIn new old b₁ h ≡ firstSome (lineShown new old f) (textsOf new old)) where
+module _ {s : Text} {old : Listing} {tn : Tally} {wn : List ℕ} (N : Holds s tn wn) {sn so pairs : List ℕ} {count : ℕ} {f : Text} {table : List ℕ} {all : ℕ} {b : Text} (W : Walk (listingOf s) old sn so pairs count f table all b)
+    (b₁ : Text) (h : Hit) (tried : hitIn (listingOf s) old b₁ h ≡ firstSome (lineShown (listingOf s) old f) (textsOf (listingOf s) old)) where
   -- a line has a hit
-  pub all-found : (e m c : ℕ) → h ≡ H.At e m c → hitIn new old b₁ (H.At e m c) ≡ verdict new old
+  pub all-found : (e m c : ℕ) → h ≡ H.At e m c → hitIn (listingOf s) old b₁ (H.At e m c) ≡ verdict (listingOf s) old
   all-found e m c q =
-      sym (verdict-by-lines new old f (W .is-filler)
-      ∙ ap (λ (x : Option Request). orElse x (shownOn new old (below [] f))) (sym tried ∙ ap (hitIn new old b₁) q))
+      sym (verdict-by-lines (listingOf s) old (accepted-proper s (N .accepts)) f (W .is-filler)
+      ∙ ap (λ (x : Option Request). orElse x (shownOn (listingOf s) old (below [] f))) (sym tried ∙ ap (hitIn (listingOf s) old b₁) q))
 
   -- none has: `/`filler is last
-  pub all-last : (path : Text) (x : Option Request) → h ≡ H.Nothing → path ≡ below [] f → x ≡ shownOn new old path → x ≡ verdict new old
+  pub all-last : (path : Text) (x : Option Request) → h ≡ H.Nothing → path ≡ below [] f → x ≡ shownOn (listingOf s) old path → x ≡ verdict (listingOf s) old
   all-last path x q put e =
       e
-      ∙ ap (shownOn new old) put
-      ∙ sym (verdict-by-lines new old f (W .is-filler)
-      ∙ ap (λ (y : Option Request). orElse y (shownOn new old (below [] f))) (sym tried ∙ ap (hitIn new old b₁) q))
+      ∙ ap (shownOn (listingOf s) old) put
+      ∙ sym (verdict-by-lines (listingOf s) old (accepted-proper s (N .accepts)) f (W .is-filler)
+      ∙ ap (λ (y : Option Request). orElse y (shownOn (listingOf s) old (below [] f))) (sym tried ∙ ap (hitIn (listingOf s) old b₁) q))

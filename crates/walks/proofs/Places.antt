@@ -15,7 +15,7 @@ use Rattle.reading.specs.declared.tables.Tally.{Tally}
 use Rattle.text.proofs.Spans.{from-on}
 use Rattle.reading.proofs.Accepted.{accepted-proper}
 use Rattle.deciding.specs.Strengths.{strength, startLeading, lead, leading}
-use Rattle.deciding.specs.declared.decisions.Leading.{Leading}
+use Rattle.deciding.specs.declared.joining.Leading.{Leading}
 use Rattle.fillers.specs.Writings.{spliced}
 use Rattle.trials.specs.Trials.{below}
 use Rattle.grants.specs.Sides.{placeIn, placeOf}

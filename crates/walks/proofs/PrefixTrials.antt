@@ -16,9 +16,9 @@ use Rattle.reading.specs.declared.tables.Tally.{Tally}
 use Rattle.text.proofs.Truths.{and-left, and-right}
 use Rattle.listings.proofs.Plainly.{shape}
 use Rattle.reading.proofs.Accepted.{accepted-proper}
-use Rattle.deciding.specs.Requests.{Request}
+use Rattle.decisions.specs.Requests.{Request}
 use Rattle.deciding.specs.Strengths.{leading}
-use Rattle.deciding.specs.declared.decisions.Leading.{Leading}
+use Rattle.deciding.specs.declared.joining.Leading.{Leading}
 use Rattle.trials.specs.Fillers.{fillerOf}
 use Rattle.trials.specs.Trials.{below, dotted, extensions, pathsOfKind, trialMethods}
 use Rattle.trials.specs.Loops.{orElse, firstSome}

@@ -12,15 +12,16 @@ use Rattle.text.specs.Texts.{Text, slash, dot, same, has, startsWith, run}
 use Rattle.listings.specs.Patterns.{PatternKind, exact, prefix, extension, default, unpermitted, kindOf, Shape}
 use Rattle.text.proofs.Truths.{never}
 use Rattle.listings.proofs.Plainly.{shape}
-use Rattle.deciding.specs.Matching.{isUnder, kindMatches}
+use Rattle.decisions.specs.Matching.{isUnder, kindMatches}
 use Rattle.deciding.specs.Strengths.{kindStrength, strength, startLeading, leadBy, lead, leading}
-use Rattle.deciding.specs.declared.decisions.Leading.{Leading}
+use Rattle.deciding.specs.declared.joining.Leading.{Leading}
 use Rattle.trials.specs.Trials.{below, dotted}
 use Rattle.grants.specs.Sides.{placeIn, isFirm}
 use Rattle.trials.proofs.Insides.{starts-itself}
 use Rattle.trials.proofs.Unders.{under-trans}
 use Rattle.trials.proofs.Endings.{plain-none, dotted-tail, dotted-one}
-use Rattle.trials.proofs.StandIns.{Filler, exact-fails, prefix-above}
+use Rattle.trials.specs.Fillers.{Filler}
+use Rattle.trials.proofs.StandIns.{exact-fails, prefix-above}
 
 -- ---- the choice on three paths
 -- a text is a prefix or exact on both of the first two, and equally strong, or on neither, and equally strong on the last two

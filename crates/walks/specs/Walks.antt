@@ -9,7 +9,7 @@ use Rattle.text.specs.Texts.{Text, bytes, star, dot, endsWith}
 use Rattle.listings.specs.Names.{isPattern}
 use Rattle.listings.specs.Patterns.{PatternKind, exact, prefix, extension, default, unpermitted, kindOf}
 use Rattle.listings.specs.Listings.{Listing, patternsOf}
-use Rattle.deciding.specs.Requests.{Request}
+use Rattle.decisions.specs.Requests.{Request}
 use Rattle.trials.specs.Fillers.{fillerOf}
 use Rattle.trials.specs.Trials.{below, dotted, extensions, pathsOfKind, trialMethods}
 use Rattle.trials.specs.Loops.{firstSome}

@@ -11,8 +11,8 @@ ghost use Rattle.reading.specs.Holds.{Holds};
 ghost use Rattle.trials.specs.Trials.{below, extensions};
 ghost use Rattle.grants.specs.Sides.{placeIn, isFirm, placeOf};
 ghost use Rattle.walks.specs.Walks.{textsOf, NotedToo, NotedLine, ExtensionsOf, IsPlain, plainPath};
-use deciding::decisions;
-use deciding::decisions::Leading;
+use deciding::joining;
+use deciding::joining::Leading;
 use fillers::writing;
 use reading::held;
 use reading::tables::Tally;
@@ -54,7 +54,7 @@ pub fn place(s: &[u8], w: &[u32], t: Tally, path: &[u8]) -> usize
     requires { ⌜ Holds (now s) t (now w) ⌝ }
     ensures { λ r. ⌜ r ≡ placeOf (listingOf (now (s .entry))) (now (path .entry)) ⌝ }
 {
-    place_in(decisions::strongest(s, w, t, path))
+    place_in(joining::strongest(s, w, t, path))
 }
 
 // Puts p, `/` and the filler.

@@ -1,6 +1,6 @@
 -- `comparer::put_caller` meets its contract: one line or the other is put.
 use borrow.Author.Needs.{needs}
-use Rattle.comparing.proofs.Answering.{none-place, none-bytes, name-room, end-room, role-place, role-bytes}
+use Rattle.comparing.proofs.Answering.{role-from, role-near, none-place, none-bytes, name-room, end-room, role-place, role-bytes}
 use Rattle.comparing.proofs.comparer.put_caller.Statement.{statement}
 use Rattle.comparing.proofs.comparer.put_caller.Tie as tie
 
@@ -23,10 +23,10 @@ put-requires-2 : tie.Need-put-requires-2
 put-requires-2 c κs = search needs
 
 sub-role : tie.Need-sub-role
-sub-role c = search needs
+sub-role c = search (needs, role-from)
 
 role-requires : tie.Need-role-requires
-role-requires c κs = search needs
+role-requires c κs = search (needs, role-near)
 
 put-requires-3 : tie.Need-put-requires-3
 put-requires-3 c κs = search (needs, name-room)

@@ -1,21 +1,8 @@
 -- `decider::decide_held` meets its contract: a refusal for each test, then the answer.
 use borrow.Author.Needs.{needs}
-use mathlib.Core.Path.{_≡_}
-use mathlib.Core.Logic.{_⊎_, inl, inr}
-use Prim.Native.Nat.{ℕ}
-use native.Mathlib.Omega.{arith}
-use denote.Enum.Declared.{tagOf}
-use Rattle.deciding.specs.declared.callers.Held.{Held}
-use Rattle.deciding.specs.declared.callers.Held.the-variants.{Bad}
-use Rattle.deciding.proofs.callers.Held.{the-type}
 use Rattle.deciding.proofs.Calls.{path-refused, method-refused, caller-refused, request-answered}
 use Rattle.deciding.proofs.decider.decide_held.Statement.{statement}
 use Rattle.deciding.proofs.decider.decide_held.Tie as tie
-
--- the variants behind the first are not bad
-not-bad : (h : Held) → (tagOf the-type h ≡ 1) ⊎ (tagOf the-type h ≡ 2) → h ≡ Bad → ⊥
-not-bad h (inl k) e = let z : _≡_ {A = ℕ} 0 1 = rw e at k in omega arith
-not-bad h (inr k) e = let z : _≡_ {A = ℕ} 0 2 = rw e at k in omega arith
 
 classes-requires : tie.Need-classes-requires
 classes-requires c κs = search needs
@@ -47,8 +34,8 @@ enum-told c = search needs
 refuse-requires-3 : tie.Need-refuse-requires-3
 refuse-requires-3 c κs = search needs
 
-returns-3 : tie.Need-returns-3
-returns-3 c = search (needs, caller-refused)
+enum-known-h : tie.Need-enum-known-h
+enum-known-h c = search needs
 
 answer-for-requires : tie.Need-answer-for-requires
 answer-for-requires c κs = search needs
@@ -56,8 +43,11 @@ answer-for-requires c κs = search needs
 number-requires : tie.Need-number-requires
 number-requires c κs = search needs
 
+returns-3 : tie.Need-returns-3
+returns-3 c = search (needs, caller-refused)
+
 returns-4 : tie.Need-returns-4
-returns-4 c = search (needs, request-answered, not-bad)
+returns-4 c = search (needs, request-answered)
 
 pub decide-held-spec : {M : Type 1} → statement M
 decide-held-spec =
@@ -73,7 +63,8 @@ decide-held-spec =
     caller-requires
     enum-told
     refuse-requires-3
-    returns-3
+    enum-known-h
     answer-for-requires
     number-requires
+    returns-3
     returns-4)

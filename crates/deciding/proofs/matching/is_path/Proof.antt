@@ -1,7 +1,7 @@
 -- `matching::is_path` meets its contract, test by test.
 use borrow.Author.Needs.{needs}
 use Rattle.listings.proofs.Namings.{tests}
-use Rattle.deciding.specs.Requests.{isPath}
+use Rattle.decisions.specs.Requests.{isPath}
 use Rattle.deciding.proofs.matching.is_path.Statement.{statement}
 use Rattle.deciding.proofs.matching.is_path.Tie as tie
 

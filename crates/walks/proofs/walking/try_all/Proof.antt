@@ -38,7 +38,7 @@ returns-2 c =
     let told = put .before .before .before in
     let tried = told .before .before .before .before in
     let start = tried .before .before .before .before .before .before .before .before .before .before .before .before in
-    (all-last (start .pre .1) _ _ (tried .try-lines .ensures .0) _ _ (told .enum-told .given .1) (put .put-below .ensures .0) (c .try-first .ensures), search needs)
+    (all-last (start .pre .0 .0) (start .pre .1) _ _ (tried .try-lines .ensures .0) _ _ (told .enum-told .given .1) (put .put-below .ensures .0) (c .try-first .ensures), search needs)
 
 pub try-all-spec : {M : Type 1} → statement M
 try-all-spec =

@@ -1,0 +1,40 @@
+-- 01's worked requests 1 to 11 and its bad callers, as tables that antt computes from the bytes of the listings and of the callers' names.
+use mathlib.Core.Path.{_≡_, refl}
+use mathlib.Core.List.{[], _∷_, _++_, map}
+use mathlib.Core.Option.{none, some}
+use Rattle.text.specs.Texts.{Text, bytes}
+use Rattle.text.specs.Bytes.{isText}
+use Rattle.listings.specs.Records.{namesRole}
+use Rattle.listings.specs.Names.{isRoleName}
+use Rattle.listings.specs.Listings.{listingOf}
+use Rattle.decisions.specs.Requests.{nobody, holder, callerOf}
+use Rattle.decisions.specs.Decisions.{decide}
+use Rattle.decisions.specs.Worked.{listingL, undeclared, asked, answers, lastAsked}
+use Rattle.decisions.specs.declared.answers.Answer.the-variants.{ByRole}
+
+pub worked-requests : map (decide (listingOf listingL)) asked ≡ answers
+unfolding listingL asked answers namesRole decide listingOf
+worked-requests = refl
+
+pub worked-11 : decide (listingOf undeclared) lastAsked ≡ ByRole
+unfolding undeclared lastAsked namesRole decide listingOf
+worked-11 = refl
+
+-- eight names
+abbrev eight : Text
+eight = bytes "a\na\na\na\na\na\na\na\n"
+
+-- "bad name, `*`, over 32 names, a last name unended, names though not logged in, a login number above 1"
+pub bad-callers :
+    callerOf 1 (bytes "a\n b\n") ∷ callerOf 1 (bytes "\n") ∷ callerOf 1 (bytes "*\n") ∷ callerOf 1 (eight ++ eight ++ eight ++ eight ++ bytes "a\n")
+    ∷ callerOf 1 (bytes "a\nb") ∷ callerOf 0 (bytes "a\n") ∷ callerOf 2 [] ∷ []
+    ≡ none ∷ none ∷ none ∷ none ∷ none ∷ none ∷ none ∷ []
+unfolding callerOf isRoleName isText
+bad-callers = refl
+
+-- and good ones: nobody, no role, two roles, 32 names
+pub good-callers :
+    callerOf 0 [] ∷ callerOf 1 [] ∷ callerOf 1 (bytes "a\nb c\n") ∷ []
+    ≡ some nobody ∷ some (holder []) ∷ some (holder (bytes "a" ∷ bytes "b c" ∷ [])) ∷ []
+unfolding callerOf isRoleName isText
+good-callers = refl

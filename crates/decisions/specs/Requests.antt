@@ -1,0 +1,70 @@
+-- "A request is a path (1 to 1,024 text bytes, first `/`), a method and a caller."
+use Prim.Native.Nat.{ℕ, zero, suc}
+use mathlib.Core.Bool.{Bool, true, cond, _&&_}
+use mathlib.Core.List.{List, [], _∷_, map, List·Memᴰ}
+use mathlib.Core.Option.{Option, none, some}
+use lib.ListN.{length}
+use lib.Dec.{leb}
+use Rattle.text.specs.Texts.{Text, bytes, all, startsWith}
+use Rattle.text.specs.Bytes.{isText}
+use Rattle.listings.specs.Names.{madeOf, isRoleName, isMethodName}
+use Rattle.text.specs.Lines.{Line, linesOf}
+
+-- ---- the path and the method
+unfoldable pub isPath : Text → Bool
+unfolding all startsWith
+isPath p = madeOf isText 1 1024 p && startsWith (bytes "/") p
+
+abbrev pub isMethod : Text → Bool
+isMethod m = isMethodName m
+
+-- ---- the caller: "not logged in (0), or logged in (1) with 0 to 32 role names, each ended by byte 10 in one lent text"
+pub data Caller : Type 0 where
+  nobody : Caller
+  holder : List Text → Caller
+
+-- a role name that its byte 10 ends; `*` is none
+abbrev pub isHeld : Line → Bool
+isHeld l = l .ended && isRoleName (l .bytes)
+
+unfoldable pub allHeld : List Line → Bool
+allHeld [] = true
+allHeld (l ∷ ls) = isHeld l && allHeld ls
+
+abbrev pub mostNames : ℕ
+mostNames = 32
+
+-- the names of the lines
+abbrev pub namesIn : List Line → List Text
+namesIn ls = map (λ (l : Line). l .bytes) ls
+
+-- the names of a logged-in caller; "a repeated name counts towards the 32 each time"
+abbrev pub holderOf : List Line → Option Caller
+holderOf ls = cond (allHeld ls && leb (length ls) mostNames) (some (holder (namesIn ls))) none
+
+-- the caller of a login number and a text of names; none where they are bad
+unfoldable pub callerOf : ℕ → Text → Option Caller
+unfolding allHeld linesOf
+callerOf zero [] = some nobody
+callerOf zero (x ∷ xs) = none
+callerOf (suc zero) t = holderOf (linesOf t)
+callerOf (suc (suc n)) t = none
+
+-- d holds every role that c holds, and may hold further ones; one who is not logged in holds none
+abbrev pub Extends : Caller → Caller → Type 0
+Extends nobody d = Unit {0}
+Extends (holder ns) nobody = ⊥
+Extends (holder ns) (holder ms) = (n : Text) → List·Memᴰ n ns → List·Memᴰ n ms
+
+pub record Request : Type 0 where
+  pub path : Text
+  pub method : Text
+  pub caller : Caller
+
+-- a request is made here alone
+abbrev pub request : Text → Text → Caller → Request
+request path method caller = record { path = path; method = method; caller = caller }
+
+-- what of it the patterns are held against: the path as it is, since "A `;` in a path is an ordinary byte."
+abbrev pub matched : Request → Text
+matched r = r .path

@@ -1,0 +1,47 @@
+-- What is proved of comparing, in the customer's words, as types: proofs/NoWider and proofs/AnswersTell have the proofs.
+use mathlib.Core.Path.{_≡_}
+use mathlib.Core.Bool.{true}
+use mathlib.Core.List.{List, _∷_, _++_, List·Memᴰ}
+use mathlib.Core.Logic.{_⊎_, _↔_}
+use mathlib.Core.Option.{none, some}
+use Prim.Native.Nat.{_≤_}
+use lib.ListN.{length}
+use Rattle.text.specs.Texts.{Text}
+use Rattle.listings.specs.Names.{isRoleName}
+use Rattle.listings.specs.Listings.{Listing}
+use Rattle.decisions.specs.Requests.{Caller, nobody, Request}
+use Rattle.trials.specs.Trials.{one, trials}
+use Rattle.trials.specs.Verdicts.{WellFormed, Widening, verdict}
+use Rattle.trials.specs.Answers.{answerOf}
+
+-- no trial widens exactly when no request at all is granted by new and denied by old
+abbrev pub NoWider : Listing → Listing → Type 0
+NoWider new old = (verdict new old ≡ none) ↔ ((r : Request) → WellFormed r → Widening new old r → ⊥)
+
+-- not logged in, or logged in with one role
+abbrev pub NobodyOrOne : Caller → Type 0
+NobodyOrOne c = (c ≡ nobody) ⊎ ((n : Text) × (c ≡ one n) × (isRoleName n ≡ true))
+
+-- what the verdict shows, if anything
+pub record Shown (new old : Listing) (r : Request) : Type 0 where
+  -- a request that a call can ask, of one who is not logged in or has one role
+  pub formed : WellFormed r
+  pub caller : NobodyOrOne (r .caller)
+  -- granted by new, denied by old
+  pub widening : Widening new old r
+  -- and the first such trial
+  pub before : List Request
+  pub after : List Request
+  pub split : trials new old ≡ before ++ r ∷ after
+  pub earlier : (q : Request) → List·Memᴰ q before → Widening new old q → ⊥
+
+abbrev pub Wider : Listing → Listing → Type 0
+Wider new old = (r : Request) → verdict new old ≡ some r → Shown new old r
+
+-- "The answer goes to a lent buffer" of at least 1,024 bytes
+abbrev pub AnswerFits : Listing → Listing → Type 0
+AnswerFits new old = length (answerOf (verdict new old)) ≤ 1024
+
+-- equal answers, equal verdicts
+abbrev pub AnswerTells : Listing → Listing → Listing → Listing → Type 0
+AnswerTells new old new′ old′ = answerOf (verdict new old) ≡ answerOf (verdict new′ old′) → verdict new old ≡ verdict new′ old′
