@@ -13,7 +13,7 @@ SEED ?= $(shell date +%s)
 SOAK ?= 3000000
 PREFIX ?= /usr/local
 VERSION = $(shell sed -n 's/.*BUDQUARRY_VERSION "\(.*\)"/\1/p' include/budquarry.h)
-CRATES = text worktable listings decisions reading deciding trials fillers grants walks comparing library
+CRATES = text worktable writing listings decisions reading deciding trials fillers grants numbers walks showing comparing library
 COMMAND = command/budquarry.c command/words.c
 
 all: build/budquarry build/agree build/stack build/calls
@@ -51,6 +51,8 @@ build/second_agree: second/agree.c build/second.o build/yardstick.o build/genera
 	$(X86) cc $(WARN) -O2 -static $^ -o $@
 build/typed: tests/typed.c include/budquarry.h build/second.o build/libbudquarry.a
 	$(X86) cc $(WARN) -O2 -static tests/typed.c build/second.o build/libbudquarry.a -o $@
+build/seam: tests/seam.c include/budquarry.h build/libbudquarry.a
+	$(X86) cc $(WARN) -O2 -static tests/seam.c build/libbudquarry.a -o $@
 build/properties: tests/properties.c build/second.o build/generate.o
 	$(X86) cc $(WARN) -O2 -static $^ -o $@
 
@@ -103,7 +105,8 @@ check-second: build/second_agree build/properties build/edges build/decide_edges
 check-command: build/budquarry
 	tests/command
 	tests/install
-check-calls: build/agree build/typed build/stack
+check-calls: build/agree build/typed build/seam build/stack
+	$(X86) run build/seam
 	$(X86) run build/typed
 	$(X86) run build/agree 1 100000
 	$(X86) run build/agree $(SEED) 20000

@@ -28,7 +28,7 @@ static struct {
     size_t limit, most;
     unsigned inputs, worst; /* how many there were, and how many of them took the most */
     char first[160];        /* of those */
-} calls[] = {{"read", run_read, 8192, 0, 0, 0, ""}, {"decide", run_decide, 8192, 0, 0, 0, ""}, {"compare", run_compare, 12288, 0, 0, 0, ""}};
+} calls[] = {{"read", run_read, 8192, 0, 0, 0, ""}, {"decide", run_decide, 8192, 0, 0, 0, ""}, {"compare", run_compare, 6144, 0, 0, 0, ""}};
 static void (*task)(void);
 static int all;
 

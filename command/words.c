@@ -128,20 +128,20 @@ void say_verdict(const struct listing *old, const struct listing *new, const uin
 
 static const char *rule(uint32_t number) {
     static const char *const rules[] = {
-        [1] = "the work table is too short",
-        [2] = "a listing has at most 24,576 bytes, and this one is longer",
-        [3] = "the first line must be exactly constraints<tab>1, ended by a line feed",
-        [4] = "unknown record name, wrong number of fields (one tab parts two fields), or a line that no line feed ends",
-        [5] = "this record may not stand here",
-        [6] = "bad role or method name, or constraint kind",
-        [7] = "bad pattern",
-        [8] = "more than the most: 64 constraints, 128 collections, 128 patterns, 512 method and omit lines, 32 roles, 31 methods",
-        [9] = "this role is declared already",
-        [10] = "the last line must be end, and nothing may follow it",
-        [11] = "bad path: it must be 1 to 1,024 text bytes and start with /",
-        [12] = "bad method: it must be 1 to 24 letters, digits or !#$%&'*+-.^_`|~",
-        [13] = "bad caller: at most 32 role names of 1 to 64 text bytes, no space first or last, none of them *",
-        [14] = "the answer buffer is too short"};
+        [BUDQUARRY_SHORT_TABLE] = "the work table is too short",
+        [BUDQUARRY_LONG_LISTING] = "a listing has at most 24,576 bytes, and this one is longer",
+        [BUDQUARRY_BAD_FIRST_LINE] = "the first line must be exactly constraints<tab>1, ended by a line feed",
+        [BUDQUARRY_BAD_FORM] = "unknown record name, wrong number of fields (one tab parts two fields), or a line that no line feed ends",
+        [BUDQUARRY_WRONG_PLACE] = "this record may not stand here",
+        [BUDQUARRY_BAD_NAME] = "bad role or method name, or constraint kind",
+        [BUDQUARRY_BAD_PATTERN] = "bad pattern",
+        [BUDQUARRY_PAST_MOST] = "more than the most: 64 constraints, 128 collections, 128 patterns, 512 method and omit lines, 32 roles, 31 methods",
+        [BUDQUARRY_ROLE_TWICE] = "this role is declared already",
+        [BUDQUARRY_NO_END] = "the last line must be end, and nothing may follow it",
+        [BUDQUARRY_BAD_PATH] = "bad path: it must be 1 to 1,024 text bytes and start with /",
+        [BUDQUARRY_BAD_METHOD] = "bad method: it must be 1 to 24 letters, digits or !#$%&'*+-.^_`|~",
+        [BUDQUARRY_BAD_CALLER] = "bad caller: at most 32 role names of 1 to 64 text bytes, no space first or last, none of them *",
+        [BUDQUARRY_SMALL_ANSWER] = "the answer buffer is too short"};
     return number < sizeof rules / sizeof *rules && rules[number] ? rules[number] : "unknown rule";
 }
 

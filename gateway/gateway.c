@@ -169,9 +169,9 @@ static enum MHD_Result reply(struct MHD_Connection *connection, unsigned status,
 static enum MHD_Result reply_decision(struct MHD_Connection *connection, struct budquarry_decision d) {
     switch (d.number) {
     case 0: break;
-    case 11: return reply(connection, MHD_HTTP_BAD_REQUEST, "bad path\n");
-    case 12: return reply(connection, MHD_HTTP_BAD_REQUEST, "bad method\n");
-    case 13: return reply(connection, MHD_HTTP_BAD_REQUEST, "bad caller\n");
+    case BUDQUARRY_BAD_PATH: return reply(connection, MHD_HTTP_BAD_REQUEST, "bad path\n");
+    case BUDQUARRY_BAD_METHOD: return reply(connection, MHD_HTTP_BAD_REQUEST, "bad method\n");
+    case BUDQUARRY_BAD_CALLER: return reply(connection, MHD_HTTP_BAD_REQUEST, "bad caller\n");
     default: return reply(connection, MHD_HTTP_INTERNAL_SERVER_ERROR, "refused\n");
     }
     switch (d.answer) {

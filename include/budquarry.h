@@ -18,9 +18,9 @@
  * the answer buffer overlap nothing.
  *
  * The work table is scratch: of at least BUDQUARRY_WORK numbers, whatever they are. After a call the first BUDQUARRY_WORK are zero and the
- * rest as before; with refusal 1 none changes.
+ * rest as before; with BUDQUARRY_SHORT_TABLE none changes.
  *
- * Stack of one call: under 2 KiB for reading and for deciding, under 12 KiB for comparing; see bench/RESULTS.md.
+ * Stack of one call: under 2 KiB for reading and for deciding, under 3 KiB for comparing; see bench/RESULTS.md.
  */
 #ifndef BUDQUARRY_H
 #define BUDQUARRY_H
@@ -40,25 +40,29 @@ enum {
     BUDQUARRY_LISTING = 24576 /* most bytes of a listing */
 };
 
-/* Refusals: number, side and line; all three are 0 where nothing is refused. The first that applies, in this order, is given.
- *    1  work table below 4,096 numbers                                             side 0, line 0
- *   14  answer buffer below 1,024 bytes (comparing)                                side 0, line 0
- *    2  listing over 24,576 bytes                                                  line 0
- *    3  the first line isn't exactly `constraints<tab>1`, or lacks its byte 10
- *    4  unknown record name, wrong number of fields, or no byte 10
- *    5  record in a wrong place
- *    6  bad role or method name, or constraint kind
- *    7  bad pattern
- *    9  role declared twice
- *    8  more than the most: 64 constraints, 128 collections, 128 patterns, 512 method and omit lines, 32 roles, 31 methods
- *   10  no `end` (at the line after the last), or bytes after it (at the next line)
- *   11  bad path: not 1 to 1,024 text bytes that start with `/` (deciding)         side 0, line 0
- *   12  bad method: not 1 to 24 token bytes (deciding)                             side 0, line 0
- *   13  bad caller (deciding): a name that isn't 1 to 64 text bytes, or with a space first or last, or `*`; over 32 names; a last name that
- *       no byte 10 ends; names though not logged in; login above 1                 side 0, line 0
- * The side of 2 to 10 is 1 for the only or the old listing, 2 for the new one; all of the old listing's come before the new one's. Lines
- * count from 1 and go top down; within a line the order is 4, 5, 6, 7, 9, 8. Text bytes are 32 to 126 and 128 to 255, token bytes those of RFC 9110.
- */
+/* Refusals: number, side and line; all three are 0 where nothing is refused. The first that applies, in this order, is given. Its side is 1 for
+ * the only or the old listing, 2 for the new one, and 0 where no listing is at fault; its line counts from 1, and is 0 with side 0 and for a
+ * listing that is too long. All of the old listing's come before the new one's; the lines go top down, and within a line the order is this one.
+ * Text bytes are 32 to 126 and 128 to 255, token bytes letters, digits and !#$%&'*+-.^_`|~ (RFC 9110). */
+enum {
+    BUDQUARRY_SHORT_TABLE = 1,    /* side 0: work table below BUDQUARRY_WORK numbers */
+    BUDQUARRY_SMALL_ANSWER = 14,  /* side 0: answer buffer below BUDQUARRY_ANSWER bytes (comparing) */
+    BUDQUARRY_LONG_LISTING = 2,   /* line 0: listing over BUDQUARRY_LISTING bytes */
+    BUDQUARRY_BAD_FIRST_LINE = 3, /* the first line isn't exactly `constraints<tab>1`, or lacks its byte 10, or the listing has no bytes */
+    BUDQUARRY_BAD_FORM = 4,       /* on a later line: unknown record name, wrong number of fields, or no byte 10 */
+    BUDQUARRY_WRONG_PLACE = 5,    /* a record that may not stand behind the one before it */
+    BUDQUARRY_BAD_NAME = 6,       /* bad role or method name, or constraint kind */
+    BUDQUARRY_BAD_PATTERN = 7,    /* bad pattern */
+    BUDQUARRY_ROLE_TWICE = 9,     /* role declared twice */
+    BUDQUARRY_PAST_MOST = 8,      /* this line is one too many: most are 64 constraints, 128 collections, 128 pattern lines, 512 method and omit
+                                     lines together, 32 distinct role names (declared or allowed, `*` not counted), 31 distinct methods */
+    BUDQUARRY_NO_END = 10,        /* no `end` (at the line after the last), or bytes after it (at the next line) */
+    BUDQUARRY_BAD_PATH = 11,      /* side 0 (deciding): not 1 to 1,024 text bytes that start with `/` */
+    BUDQUARRY_BAD_METHOD = 12,    /* side 0 (deciding): not 1 to 24 token bytes */
+    BUDQUARRY_BAD_CALLER = 13     /* side 0 (deciding): a name that isn't 1 to 64 text bytes, or has a space first or last, or is `*`; over 32 names;
+                                     a last name that no byte 10 ends; names though not logged in; login above 1 */
+};
+
 struct budquarry_report {
     uint32_t number, side, line;
 };
@@ -95,7 +99,9 @@ enum { BUDQUARRY_NO_WIDER = 17 }; /* the length of the answer `verdict<tab>no wi
 /* Compares two listings: does the new one grant any request at all that the old one denies? The answer is text in the first length bytes of the
  * answer buffer, each line ended by byte 10, no NUL; the bytes past it stay as they were. It is the one line
  *     verdict<tab>no wider
- * or four lines that show such a request, the first in 01's order:
+ * or four lines that show such a request, the first by path (those of the new listing's pattern lines, then of the old one's, then of neither),
+ * then by method (the new listing's as they appear, then the old one's, then one that neither names), then by caller (not logged in, then each
+ * role, likewise):
  *     verdict<tab>wider
  *     path<tab>PATH
  *     method<tab>METHOD

@@ -165,8 +165,8 @@ static int expected(const char *path, const char *method, const struct caller *c
     if (wrong) return 401;
     struct budquarry_decision d = budquarry_decide(listing, listing_len, (const uint8_t *)path, strlen(path), (const uint8_t *)method, strlen(method), c != NULL,
                                                    (const uint8_t *)(c ? c->roles : ""), c ? strlen(c->roles) : 0, work, BUDQUARRY_WORK);
-    *line = d.number == 11 ? "bad path\n" : d.number == 12 ? "bad method\n" : answers[d.answer];
-    return d.number == 0 ? statuses[d.answer] : d.number == 11 || d.number == 12 ? 400 : 500;
+    *line = d.number == BUDQUARRY_BAD_PATH ? "bad path\n" : d.number == BUDQUARRY_BAD_METHOD ? "bad method\n" : answers[d.answer];
+    return d.number == 0 ? statuses[d.answer] : d.number == BUDQUARRY_BAD_PATH || d.number == BUDQUARRY_BAD_METHOD ? 400 : 500;
 }
 
 static size_t make_request(char *to, const char *path, const char *method, const struct caller *c, int wrong) {

@@ -13,8 +13,7 @@ use Rattle.listings.specs.declared.answers.Fault.{Fault}
 use Rattle.listings.specs.declared.answers.Fault.the-variants.{LongListing, BadFirstLine, BadForm, WrongPlace, BadName, BadPattern, RoleTwice, PastMost, NoEnd}
 use Rattle.comparing.specs.declared.answers.Comparison.{Comparison}
 use Rattle.comparing.specs.Outcomes.{Compared, refusedFor, answered, compared, comparedNew, comparedOld, comparisonFor, answerFor, comparisonOf, answerAfter, CompareOutcome}
-use Rattle.fillers.specs.Writings.{written}
-use Rattle.compare.specs.Printed.{refusalLine, printedFor, printedOf}
+use Rattle.compare.specs.Printed.{refusalLine, written, printedFor, printedOf}
 
 -- a text that is written counts as far as it goes
 pub written-counts : (t out out′ : Text) (r : ℕ) → r ≡ length t → out′ ≡ written t out → Counts r out′

@@ -3,7 +3,7 @@ use mathlib.Core.Path.{_≡_, refl}
 use mathlib.Core.List.{[], _∷_}
 use Rattle.text.specs.Texts.{bytes}
 use Rattle.trials.specs.Answers.{lineOf}
-use Rattle.trials.specs.Fillers.{digits}
+use Rattle.writing.specs.Decimals.{digits}
 use Rattle.compare.specs.Printed.{refusalLine}
 
 -- a number has as many digits as it needs, the largest of 32 bits too

@@ -2,14 +2,14 @@
 use mathlib.Core.Path.{_≡_, refl, sym, ap, subst, _∙_}
 use mathlib.Core.Bool.{Bool, true, false}
 use mathlib.Core.List.{List, [], _∷_, _++_}
-use Prim.Native.Nat.{ℕ, _+_, _-_, _*_, _≤_, _<_}
+use Prim.Native.Nat.{ℕ, zero, suc, _+_, _-_, _*_, _≤_, _<_}
 use native.Mathlib.Omega.{arith}
 use lib.ListN.{length, take, drop, replicate, length-append, length-drop}
-use lib.Seq.{length-take-le, length-front, take-at, drop-at, take-take, take-add, drop-drop, drop-append-add, take-append-add}
+use lib.Seq.{length-take-le, length-front, take-at, drop-at, take-take, take-nil, drop-drop, drop-append-add}
 use borrow.Rule.Slice.PartMut.{putMid, postOf, post-is, same-len-mid}
 use borrow.Author.Tests.{lt-ltb, le-ltb}
-use Rattle.text.specs.Texts.{Text}
-use Rattle.listings.specs.Listings.{Listing, listingOf}
+use Rattle.text.specs.Texts.{Text, part}
+use Rattle.listings.specs.Listings.{listingOf}
 use Rattle.worktable.specs.Work.{zeroed, workAfter, isShort}
 use Rattle.worktable.proofs.Lengths.{too-short, long-enough}
 use Rattle.listings.specs.Refusals.{numberOf, readingOf}
@@ -19,60 +19,62 @@ use Rattle.listings.specs.declared.answers.Fault.{Fault}
 use Rattle.reading.specs.declared.reader.Loaded.{Loaded}
 use Rattle.reading.specs.declared.reader.Loaded.the-variants.{Whole, Not}
 use Rattle.reading.specs.declared.tables.Tally.{Tally}
-use Rattle.trials.specs.Fillers.{numbered, digits, firstNumber, fills, filler, isUnnamed, fillerMethod, fillerOf, fillerMethodOf}
 use Rattle.comparing.specs.Outcomes.{comparedBoth, comparedNew, comparedOld, compared, comparisonFor, answerFor, comparisonOf, answerAfter, CompareOutcome}
-use Rattle.grants.specs.Sides.{SideOf, PairsOf, Ready}
-use Rattle.walks.specs.Walks.{textsOf}
+use Rattle.grants.specs.Scratch.{Numbered}
+use Rattle.grants.specs.declared.scratch.Counts.{Counts}
+use Rattle.numbers.specs.Writes.{Both, BothHeld}
+use Rattle.numbers.specs.declared.pairs.Pair.{Pair}
+use Rattle.comparing.specs.Tellings.{Prepared}
 use Rattle.comparing.specs.declared.answers.Comparison.{Comparison}
-use Rattle.trials.proofs.FillersExist.{filler-short}
 
--- ---- the fillers
-module _ (new old : Listing) (t : Text) where
-  -- the filler is short
-  pub filler-near : t ≡ fillerOf new old → length t ≤ 6
-  unfolding fillerOf
-  filler-near e = rw e (filler-short (textsOf new old))
+-- ---- the table that holds both listings
+-- a part of what is taken
+part-cut : (a e : ℕ) (w : List ℕ) → part a e w ≡ drop a (take e w)
+part-cut zero e w = let z : e - 0 ≡ e = omega arith in rw z
+part-cut (suc a) zero w = let z : 0 - suc a ≡ 0 = omega arith in rw z
+part-cut (suc a) (suc e) [] = take-nil (suc e - suc a)
+part-cut (suc a) (suc e) (x ∷ w) = let z : suc e - suc a ≡ e - a = omega arith in rw z (part-cut a e w)
 
-  -- it is `q` and its number
-  pub filler-here : (k : ℕ) → t ≡ numbered (113 ∷ []) k → k ≡ firstNumber (fills (textsOf new old)) → t ≡ fillerOf new old
-  unfolding fillerOf filler
-  filler-here k e f = e ∙ ap (numbered (113 ∷ [])) f
+-- where the first 2,048 numbers stay, both stay
+kept-both : (old new : Text) (pair : Pair) (w w′ : List ℕ) → take 2048 w′ ≡ take 2048 w → BothHeld old new w pair → BothHeld old new w′ pair
+kept-both old new pair w w′ k B = record { olds = subst (Holds old (pair .old)) first (B .olds); news = subst (Holds new (pair .new)) second (B .news) }
+  where
+    a : 1024 ≤ 2048
+    a = omega arith
 
-  -- the filler method is `Q` and its number
-  pub method-here : (k : ℕ) → t ≡ numbered (81 ∷ []) k → k ≡ firstNumber (isUnnamed (new .methods ++ old .methods)) → t ≡ fillerMethodOf new old
-  unfolding fillerMethodOf fillerMethod
-  method-here k e f = e ∙ ap (numbered (81 ∷ [])) f
+    first : take 1024 w ≡ take 1024 w′
+    first = sym (take-take 1024 2048 w a) ∙ ap (take 1024) (sym k) ∙ take-take 1024 2048 w′ a
 
--- what stands in the first n of 8 bytes
-pub eight-lent : (n : ℕ) (t : Text) → n ≤ 6 → length t ≡ 8 → n ≡ length (take n t)
-eight-lent n t h e = sym (length-take-le n t (omega arith))
+    second : part 1024 2048 w ≡ part 1024 2048 w′
+    second = part-cut 1024 2048 w ∙ ap (drop 1024) (sym k) ∙ sym (part-cut 1024 2048 w′)
 
--- ---- the tables
-pub all-ready : (new old : Listing) (sn so pairs : List ℕ) (count : ℕ) → SideOf (new .roles) new sn → SideOf (new .roles) old so → PairsOf new old pairs count → Ready new old sn so pairs count
-all-ready new old sn so pairs count a b c = record { new-side = a; old-side = b; methods = c }
+-- read into the first n numbers and the next n, both are held
+pub both-held : (old new : Text) (lo ln : Loaded) (n : ℕ) (w : List ℕ) → n ≡ 1024 → LoadOutcome old lo (take n w) → LoadOutcome new ln (take n (drop n w))
+    → (to tn : Tally) → lo ≡ Whole to → ln ≡ Whole tn → (pair : Pair) → pair ≡ record { old = to; new = tn } → BothHeld old new w pair
+both-held old new lo ln n w e O N to tn p q pair r =
+    let A : LoadOutcome old (Whole to) (take 1024 w) = rw (e, p) at O in
+    let B : LoadOutcome new (Whole tn) (take 1024 (drop 1024 w)) = rw (e, q) at N in
+    rw r (record { olds = A .holds; news = B .holds })
 
--- ---- the table that holds both listings: n numbers, then n
-module _ (n : ℕ) (w : List ℕ) (room : 2 * n ≤ length w) where
-  pub first-length : n ≡ length (take n w)
-  first-length = sym (length-take-le n w (omega arith))
+pub long-table : (n : ℕ) (w : List ℕ) → n ≡ 1024 → 4 * n ≤ length w → 4096 ≤ length w
+long-table n w e h = omega arith
 
-  pub second-holds : (s : Text) (t : Tally) → Holds s t (take n (drop n w)) → Holds s t (take (2 * n - n) (drop n w))
-  second-holds s t H = let e : 2 * n - n ≡ n = omega arith in rw e H
+module _ (old new : Text) (pair : Pair) (w w₁ : List ℕ) (B : BothHeld old new w pair) (kept : take (2 * 1024) w₁ ≡ take (2 * 1024) w) where
+  -- the filler's marks leave both
+  pub marked-both : BothHeld old new w₁ pair
+  marked-both = kept-both old new pair w w₁ kept B
 
--- the second n of the first 2n
-second-of : (n : ℕ) (w : List ℕ) → 2 * n ≤ length w → drop n (take (2 * n) w) ≡ take n (drop n w)
-second-of n w h =
-    let e : 2 * n ≡ n + n = omega arith in
-    rw (e, take-add n n w) (drop-at (take n w) (take n (drop n w)) n (length-take-le n w (omega arith)))
+  -- and so do the numbers
+  pub both-prepared : (w₂ : List ℕ) (c : Counts) → 4096 ≤ length w → length w₁ ≡ length w → length w₂ ≡ length w₁ → take 2048 w₂ ≡ take 2048 w₁
+      → Numbered (listingOf old) (listingOf new) (part 2048 4096 w₂) c → Prepared old new w₂ pair c
+  both-prepared w₂ c l p q k Z = record { both = kept-both old new pair w₁ w₂ k marked-both; long = omega arith; numbers = Z }
 
--- where the first 2n stay, both stay
-module _ (n : ℕ) (w w′ : List ℕ) (room : 4 * n ≤ length w) (long : length w′ ≡ length w) (kept : take (2 * n) w′ ≡ take (2 * n) w) where
-  pub first-kept : (s : Text) (t : Tally) → Holds s t (take n w) → Holds s t (take n w′)
-  first-kept s t H =
-      subst (Holds s t) (sym (take-take n (2 * n) w (omega arith)) ∙ ap (take n) (sym kept) ∙ take-take n (2 * n) w′ (omega arith)) H
+-- what stands behind stays
+pub rest-stays : (w w₁ w₂ : List ℕ) → drop (4 * 1024) w₁ ≡ drop (4 * 1024) w → drop 4096 w₂ ≡ drop 4096 w₁ → drop 4096 w₂ ≡ drop 4096 w
+rest-stays w w₁ w₂ p q = q ∙ p
 
-  pub second-kept : (s : Text) (t : Tally) → Holds s t (take n (drop n w)) → Holds s t (take n (drop n w′))
-  second-kept s t H = subst (Holds s t) (sym (second-of n w (omega arith)) ∙ ap (drop n) (sym kept) ∙ second-of n w′ (omega arith)) H
+pub rest-of : (n : ℕ) (w w′ : List ℕ) → n ≡ 1024 → drop 4096 w′ ≡ drop 4096 w → drop (4 * n) w′ ≡ drop (4 * n) w
+rest-of n w w′ e p = rw e p
 
 -- ---- what is compared once both are read
 module _ (old new : Text) (lo ln : Loaded) (wo wn : List ℕ) (O : LoadOutcome old lo wo) (N : LoadOutcome new ln wn) where

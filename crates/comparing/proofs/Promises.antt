@@ -18,7 +18,7 @@ use Rattle.trials.specs.Demands.{Shown}
 use Rattle.trials.specs.Answers.{lineOf, answerOf}
 use Rattle.comparing.specs.declared.answers.Comparison.{Comparison}
 use Rattle.comparing.specs.Outcomes.{Compared, refusedFor, answered, answerSize, compared, comparisonFor, answerFor, comparisonOf, answerAfter, CompareOutcome}
-use Rattle.comparing.specs.Demands.{GrantsNoMore}
+use Rattle.comparing.specs.Demands.{NothingGained}
 use Rattle.reading.proofs.Accepted.{accepted-proper}
 use Rattle.trials.proofs.NoWider.{wider}
 use Rattle.trials.proofs.AnswersTell.{no-wider-length, wider-length, answer-fits}
@@ -81,18 +81,18 @@ module _ (old new answer : Text) (work : List ℕ) (c : Comparison) (left : Text
         (omega arith, rw (length-is, left-is) (drop-append-seam text (drop (length text) answer)))
 
     -- the answer is `verdict⇥no wider` exactly where deciding, asked anything at all, grants with the new listing nothing that it denies with the old one
-    pub no-wider-exactly : (take (c .length) left ≡ bytes "verdict\tno wider\n") ↔ GrantsNoMore old new
+    pub no-wider-exactly : (take (c .length) left ≡ bytes "verdict\tno wider\n") ↔ NothingGained old new
     no-wider-exactly = (there, λ g. written-is ∙ ap answerOf (no-wider-by-calls old new o n .1 g) ∙ no-wider-text)
       where
         none-of : (v : Option Request) → answerOf v ≡ bytes "verdict\tno wider\n" → v ≡ none
         none-of none e = refl
         none-of (some r) e = absurd (forms-differ r e)
 
-        there : take (c .length) left ≡ bytes "verdict\tno wider\n" → GrantsNoMore old new
+        there : take (c .length) left ≡ bytes "verdict\tno wider\n" → NothingGained old new
         there e = no-wider-by-calls old new o n .0 (none-of (verdict (listingOf new) (listingOf old)) (sym written-is ∙ e))
 
     -- so it is exactly where the length is 17
-    pub no-wider-by-length : (c .length ≡ 17) ↔ GrantsNoMore old new
+    pub no-wider-by-length : (c .length ≡ 17) ↔ NothingGained old new
     no-wider-by-length = (
       λ e. no-wider-by-calls old new o n .0 (none-of (verdict (listingOf new) (listingOf old)) (sym length-is ∙ e)),
       λ g. length-is ∙ ap (λ (v : Option Request). length (answerOf v)) (no-wider-by-calls old new o n .1 g) ∙ no-wider-length,

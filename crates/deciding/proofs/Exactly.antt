@@ -1,17 +1,18 @@
 -- A call of deciding gives a refusal exactly when its row is given and none before it is.
-use mathlib.Core.Path.{_≡_, refl, _∙_}
+use mathlib.Core.Path.{_≡_, refl, sym, ap, _∙_}
 use mathlib.Core.Bool.{Bool, true, false, not, cond}
 use mathlib.Core.List.{List, [], _∷_}
 use mathlib.Core.Logic.{_↔_}
 use mathlib.Core.Option.{Option, none, some}
 use Prim.Native.Nat.{ℕ}
 use native.Mathlib.Omega.{arith}
-use Rattle.listings.specs.Refusals.{Reading, accepted, refusal, numberOf, readingOf}
+use Rattle.listings.specs.Refusals.{Reading, accepted, refusal, readingOf}
+use Rattle.listings.specs.Rules.{rowNumber}
 use Rattle.worktable.specs.Work.{isShort}
 use Rattle.reading.specs.Rows.{report, row, listingRow, lastRow, FirstGiven, FirstBroken}
 use Rattle.listings.specs.declared.answers.Report.{Report}
 use Rattle.listings.specs.declared.answers.Fault.{Fault}
-use Rattle.listings.proofs.Exactly.{refused-exactly}
+use Rattle.listings.proofs.Exactly.{refused-exactly, number-right}
 use Rattle.reading.proofs.Firsts.{firstOf, first-exactly, one-refusal, side-tells}
 use Rattle.decisions.specs.Requests.{Caller, isPath, isMethod, callerOf}
 use Rattle.deciding.specs.Outcomes.{refused, Asked, decideCaller, decideListing, decisionOf}
@@ -35,7 +36,7 @@ module _ (a : Asked) where
           ≡ some (reportIn (cond b (refused 1 0 0) (decideListing a x)))
       go true x = refl
       go false accepted = request-first (isPath (a .path)) (isMethod (a .method)) (callerOf (a .login) (a .names))
-      go false (refusal f n) = refl
+      go false (refusal f n) = ap (λ (k : ℕ). some (report k 1 n)) (sym (number-right f))
 
   -- number, side and line are handed back exactly where they are the first that is given
   pub decide-refused-exactly : (w : List ℕ) (r : Report) → (reportIn (decisionOf a w) ≡ r) ↔ FirstGiven (decideRows a w) r
@@ -51,14 +52,14 @@ module _ (a : Asked) where
 
   -- a rule's number and a line are handed back exactly where the table is long enough and the listing breaks that rule there first
   pub decide-listing-refused-exactly : (w : List ℕ) (f : Fault) (n : ℕ)
-      → (reportIn (decisionOf a w) ≡ report (numberOf f) 1 n) ↔ ((isShort w ≡ false) × FirstBroken (a .listing) f n)
+      → (reportIn (decisionOf a w) ≡ report (rowNumber f) 1 n) ↔ ((isShort w ≡ false) × FirstBroken (a .listing) f n)
   unfolding decisionOf
   decide-listing-refused-exactly w f n = (
     λ e. let r = go (isShort w) (readingOf (a .listing)) refl refl e in (r .0, refused-exactly (a .listing) f n .0 (r .1)),
-    λ h. rw (h .0, refused-exactly (a .listing) f n .1 (h .1)),
+    λ h. rw (h .0, refused-exactly (a .listing) f n .1 (h .1), number-right f),
   )
     where
-      go : (b : Bool) (x : Reading) → isShort w ≡ b → readingOf (a .listing) ≡ x → reportIn (cond b (refused 1 0 0) (decideListing a x)) ≡ report (numberOf f) 1 n
+      go : (b : Bool) (x : Reading) → isShort w ≡ b → readingOf (a .listing) ≡ x → reportIn (cond b (refused 1 0 0) (decideListing a x)) ≡ report (rowNumber f) 1 n
           → (isShort w ≡ false) × (readingOf (a .listing) ≡ refusal f n)
       go true x p q e = absurd (omega (arith, side-tells _ _ e))
       go false accepted p q e = absurd (omega (arith, request-side (isPath (a .path)) (isMethod (a .method)) (callerOf (a .login) (a .names)), side-tells _ _ e))

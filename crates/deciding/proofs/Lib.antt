@@ -1,5 +1,6 @@
 -- The laws and the theorems of the call:
---   Promises   what the customer is promised
+--   Demands    what the customer asks of the call holds
+--   Promises   what it rests on: a grant, a refusal, one outcome
 --   Exactly    when each refusal is given
 --   Cases      01's worked requests 1 to 11
 --   Strengths  the best match by a number for each pattern text
@@ -13,6 +14,7 @@
 --   Calls      what the functions of the whole call hand to each other
 pub mod Promises
 pub mod Exactly
+pub mod Demands
 pub mod Cases
 pub mod Strengths
 pub mod Shorts

@@ -1,8 +1,7 @@
--- What the customer is promised of the call.
-use mathlib.Core.Path.{_≡_, refl, sym, ap, _∙_}
+-- What is promised of the call: who logs in extends the caller that he was, a refusal grants nothing, and the statement settles the outcome.
+use mathlib.Core.Path.{_≡_, sym, ap, _∙_}
 use mathlib.Core.Bool.{Bool, true, false, cond, _&&_}
 use mathlib.Core.List.{List, [], _∷_, List·Memᴰ}
-use mathlib.Core.Logic.{_↔_}
 use mathlib.Core.Option.{Option, none, some, Option·some-injective, Option·none-ne-some}
 use Prim.Native.Nat.{ℕ, zero, suc, _≤_}
 use native.Mathlib.Omega.{arith}
@@ -12,17 +11,13 @@ use borrow.Author.Tests.{le-ltb}
 use Rattle.text.specs.Texts.{Text}
 use Rattle.text.specs.Lines.{Line, linesOf}
 use Rattle.listings.specs.Refusals.{Reading, accepted, refusal, readingOf}
-use Rattle.listings.specs.Listings.{listingOf}
 use Rattle.worktable.specs.Work.{workSize, isShort, workAfter}
-use Rattle.text.proofs.Truths.{never}
 use Rattle.reading.proofs.Unique.{work-same}
 use Rattle.decisions.specs.Requests.{Caller, nobody, holder, allHeld, mostNames, namesIn, holderOf, callerOf, isPath, isMethod, Extends}
-use Rattle.decisions.specs.Decisions.{decide}
-use Rattle.decisions.proofs.Promises.{never-loses, grant-number}
-use Rattle.deciding.specs.Outcomes.{refused, answered, isGranted, Asked, asked, decideCaller, decideListing, decisionOf, DecideOutcome, requestFor, Granted}
+use Rattle.deciding.specs.Outcomes.{refused, answered, isGranted, Asked, decideCaller, decideListing, decisionOf, DecideOutcome}
 use Rattle.deciding.specs.declared.answers.Decision.{Decision}
 
--- ---- further roles, and logging in, never lose a grant
+-- ---- who logs in, or names further roles, is a caller who extends the first
 -- of a caller: the lines' names, or nobody
 holder-names : (ls : List Line) (c : Caller) → holderOf ls ≡ some c → c ≡ holder (namesIn ls)
 holder-names ls c e = go (allHeld ls && leb (length ls) mostNames) e
@@ -31,7 +26,7 @@ holder-names ls c e = go (allHeld ls && leb (length ls) mostNames) e
     go true h = sym (Option·some-injective (holder (namesIn ls)) c h)
     go false h = absurd (Option·none-ne-some c h)
 
-callers-extend : (login login′ : ℕ) (names names′ : Text) (c d : Caller) → callerOf login names ≡ some c → callerOf login′ names′ ≡ some d
+pub callers-extend : (login login′ : ℕ) (names names′ : Text) (c d : Caller) → callerOf login names ≡ some c → callerOf login′ names′ ≡ some d
     → login ≤ login′ → ((n : Text) → List·Memᴰ n (namesIn (linesOf names)) → List·Memᴰ n (namesIn (linesOf names′))) → Extends c d
 unfolding callerOf
 callers-extend zero login′ [] names′ c d e f h i = rw (← Option·some-injective nobody c e) tt
@@ -40,60 +35,6 @@ callers-extend (suc zero) zero names names′ c d e f h i = absurd (omega arith)
 callers-extend (suc zero) (suc zero) names names′ c d e f h i = rw (holder-names (linesOf names) c e, holder-names (linesOf names′) d f) i
 callers-extend (suc zero) (suc (suc k)) names names′ c d e f h i = absurd (Option·none-ne-some d f)
 callers-extend (suc (suc k)) login′ names names′ c d e f h i = absurd (Option·none-ne-some c e)
-
-module _ (a : Asked) (w : List ℕ) where
-  -- the answer's number is a grant's, so nothing is refused
-  granted-of : isGranted (decisionOf a w) ≡ true → Granted a
-  unfolding decisionOf
-  granted-of h = short (isShort w) h
-    where
-      called : (o : Option Caller) → callerOf (a .login) (a .names) ≡ o → isGranted (decideCaller a o) ≡ true
-          → readingOf (a .listing) ≡ accepted → isPath (a .path) ≡ true → isMethod (a .method) ≡ true → Granted a
-      called none e i r p m = absurd (never false i refl)
-      called (some c) e i r p m =
-          record { reads = r; path = p; method = m; caller = c; called = e; grant = sym (grant-number (decide (listingOf (a .listing)) (requestFor a c))) ∙ i }
-
-      requested : (p m : Bool) → isPath (a .path) ≡ p → isMethod (a .method) ≡ m → readingOf (a .listing) ≡ accepted
-          → isGranted (cond p (cond m (decideCaller a (callerOf (a .login) (a .names))) (refused 12 0 0)) (refused 11 0 0)) ≡ true → Granted a
-      requested true true p m r i = called (callerOf (a .login) (a .names)) refl i r p m
-      requested true false p m r i = absurd (never false i refl)
-      requested false m p q r i = absurd (never false i refl)
-
-      read : (r : Reading) → readingOf (a .listing) ≡ r → isGranted (decideListing a r) ≡ true → Granted a
-      read accepted e i = requested (isPath (a .path)) (isMethod (a .method)) refl refl e i
-      read (refusal f n) e i = absurd (never false i refl)
-
-      short : (s : Bool) → isGranted (cond s (refused 1 0 0) (decideListing a (readingOf (a .listing)))) ≡ true → Granted a
-      short true i = absurd (never false i refl)
-      short false i = read (readingOf (a .listing)) refl i
-
-  of-granted : workSize ≤ length w → Granted a → isGranted (decisionOf a w) ≡ true
-  unfolding decisionOf
-  of-granted h g =
-      rw (le-ltb (length w) workSize h, g .reads, g .path, g .method, g .called, grant-number (decide (listingOf (a .listing)) (requestFor a (g .caller)))) (g .grant)
-
-  -- the call grants exactly when nothing is refused and the answer is a grant
-  pub granted-exactly : workSize ≤ length w → (isGranted (decisionOf a w) ≡ true) ↔ Granted a
-  granted-exactly h = (granted-of, of-granted h)
-
--- with the same listing, path and method, one who logs in, or names further roles, keeps every grant: the login number and the names may only grow,
--- and the second call's caller is well formed
-pub login-never-loses : (listing path method : Text) (login login′ : ℕ) (names names′ : Text) (w w′ : List ℕ) (d : Caller)
-    → callerOf login′ names′ ≡ some d → login ≤ login′ → ((n : Text) → List·Memᴰ n (namesIn (linesOf names)) → List·Memᴰ n (namesIn (linesOf names′)))
-    → workSize ≤ length w′
-    → isGranted (decisionOf (asked listing path method login names) w) ≡ true
-    → isGranted (decisionOf (asked listing path method login′ names′) w′) ≡ true
-login-never-loses listing path method login login′ names names′ w w′ d e h i long q =
-    let g = granted-of (asked listing path method login names) w q in
-    of-granted (asked listing path method login′ names′) w′ long
-    record {
-      reads = g .reads;
-      path = g .path;
-      method = g .method;
-      caller = d;
-      called = e;
-      grant = never-loses (listingOf listing) path method (g .caller) d (callers-extend login login′ names names′ (g .caller) d (g .called) e h i) (g .grant);
-    }
 
 -- ---- a refusal is no grant
 -- of any outcome that satisfies the statement, with a work table of any length: beside a refusal the answer is 0, which is none of the answers' numbers

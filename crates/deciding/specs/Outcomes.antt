@@ -1,7 +1,7 @@
 -- What `budquarry_decide` hands back, and what it leaves in the work table.
 use Prim.Native.Nat.{ℕ}
 use mathlib.Core.Path.{_≡_}
-use mathlib.Core.Bool.{Bool, true, cond}
+use mathlib.Core.Bool.{Bool, cond}
 use mathlib.Core.List.{List}
 use mathlib.Core.Option.{Option, none, some}
 use Rattle.text.specs.Texts.{Text}
@@ -9,7 +9,7 @@ use Rattle.listings.specs.Refusals.{Reading, accepted, refusal, numberOf, short
 use Rattle.listings.specs.Listings.{listingOf}
 use Rattle.worktable.specs.Work.{isShort, workAfter}
 use Rattle.decisions.specs.Requests.{Caller, Request, request, isPath, isMethod, callerOf}
-use Rattle.decisions.specs.Decisions.{decide, isGrant, answerNumber, isGrantNumber}
+use Rattle.decisions.specs.Decisions.{decide, answerNumber, isGrantNumber}
 use Rattle.deciding.specs.declared.answers.Decision.{Decision}
 
 -- a refusal's answer is 0
@@ -61,13 +61,3 @@ decisionOf a w = cond (isShort w) (refused shortTable 0 0) (decideListing a (rea
 pub record DecideOutcome (a : Asked) (w : List ℕ) (handed : Decision) (left : List ℕ) : Type 0 where
   pub decision : handed ≡ decisionOf a w
   pub work : left ≡ workAfter w
-
--- ---- what the theorems say
--- nothing is refused, and the answer is a grant
-pub record Granted (a : Asked) : Type 0 where
-  pub reads : readingOf (a .listing) ≡ accepted
-  pub path : isPath (a .path) ≡ true
-  pub method : isMethod (a .method) ≡ true
-  pub caller : Caller
-  pub called : callerOf (a .login) (a .names) ≡ some caller
-  pub grant : isGrant (decide (listingOf (a .listing)) (requestFor a caller)) ≡ true

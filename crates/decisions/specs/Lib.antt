@@ -7,6 +7,7 @@
 --   Worked     01's worked requests, to compute with
 -- The last is for the proofs alone, and no public statement rests on a reader's believing it:
 --   Gatherings what the `pattern` lines come to, one after the other
+-- docs/READING.md explains the notation.
 pub mod Matching
 pub mod Requests
 pub mod Combining

@@ -11,10 +11,11 @@ use borrow.Author.Tests.{lt-ltb, le-ltb, ltb-true, ltb-false, le-leb, leb-true, 
 use Rattle.text.specs.Texts.{Text, same, startsWith, all}
 use Rattle.text.proofs.Truths.{never, not-so, and-left, and-right, and-both}
 use Rattle.text.proofs.Spans.{same-equal, same-self}
-use Rattle.trials.specs.Fillers.{digits}
+use Rattle.writing.specs.Decimals.{digits}
 use Rattle.fillers.specs.Marks.{leads}
 use Rattle.trials.proofs.Insides.{agree, cons-same}
-use Rattle.trials.proofs.Decimals.{one-digit, value, value-digits, digits-apart, digits-pass, digits-some}
+use Rattle.writing.proofs.Decimals.{one-digit, value, value-digits, digits-apart, digits-some}
+use Rattle.trials.proofs.Decimals.{digits-pass}
 
 -- ---- texts that start with s
 -- s and a byte behind a text: s is found in the text, or is the text and the byte

@@ -1,5 +1,5 @@
 -- The laws of the code that finds the fillers:
---   Putting         writing: bytes put into a buffer
+--   Putting         a letter and a number put at the start of a buffer
 --   Marking         finding: numbers marked
 --   LeadingNumbers  the numbers that a text starts with
 --   MarkingTexts    the numbers of a text, byte by byte

@@ -1,5 +1,4 @@
--- For the proofs alone: no public statement rests on a reader's believing these.
---   Writings  bytes put into a buffer
+-- For the proofs alone: no public statement rests on a reader's believing this.
 --   Marks     a table of marked numbers
-pub mod Writings
+-- docs/READING.md explains the notation.
 pub mod Marks

@@ -7,7 +7,8 @@ use lib.ListN.{length, getD}
 use lib.Dec.{eqb}
 use Rattle.text.specs.Texts.{Text, bytes, startsWith}
 use Rattle.reading.specs.Sets.{digit}
-use Rattle.trials.specs.Fillers.{digits, numbered, occurs, fills}
+use Rattle.writing.specs.Decimals.{digits}
+use Rattle.trials.specs.Fillers.{numbered, occurs, fills}
 
 -- n is marked
 unfoldable pub isMarked : List ℕ → ℕ → Bool

@@ -1,15 +1,14 @@
 // The filler and the filler method.
 ghost use mathlib.Core.Path.{_≡_};
 ghost use mathlib.Core.Bool.{true, false};
-ghost use mathlib.Core.List.{_++_};
+ghost use mathlib.Core.List.{_++_, _∷_, []};
 ghost use Prim.Native.Nat.{ℕ, _+_, _*_, _≤_, _<_};
 ghost use lib.ListN.{length, take, drop};
 ghost use lib.Dec.{eqb};
 ghost use Rattle.listings.specs.Listings.{listingOf, patternsOf};
 ghost use Rattle.reading.specs.Holds.{Holds};
-ghost use Rattle.trials.specs.Fillers.{firstNumber, fills, isUnnamed};
+ghost use Rattle.trials.specs.Fillers.{numbered, firstNumber, fills, isUnnamed};
 ghost use Rattle.fillers.specs.Marks.{MarkedToo, leads, within, withinAny, isMarked};
-use crate::writing;
 use reading::held;
 use reading::reader;
 use reading::tables::Tally;
@@ -106,7 +105,7 @@ pub fn first_unmarked(marks: &[u32]) -> usize
 }
 
 // The number of the filler. w holds old in its first n numbers and new in the next n; the 2n behind them are used.
-pub fn filler_number(new: &[u8], tn: Tally, old: &[u8], to: Tally, w: &mut [u32], n: usize) -> usize
+pub fn filler_number(old: &[u8], to: Tally, new: &[u8], tn: Tally, w: &mut [u32], n: usize) -> usize
     requires { ⌜ ((n ≡ 1024) × (4 * n ≤ length (now w))) × (Holds (now old) to (take n (now w)) × Holds (now new) tn (take n (drop n (now w)))) ⌝ }
     ensures number { λ r. ⌜ r ≡ firstNumber (fills (patternsOf (listingOf (now (new .entry))) ++ patternsOf (listingOf (now (old .entry))))) ⌝ }
     ensures small { λ r. ⌜ r < 65536 ⌝ }
@@ -122,21 +121,31 @@ pub fn filler_number(new: &[u8], tn: Tally, old: &[u8], to: Tally, w: &mut [u32]
     first_unmarked(&w[a..e])
 }
 
+// Puts a letter and n in decimal at the start, and hands back how many bytes they are.
+pub fn put_name(out: &mut [u8], letter: u8, n: usize) -> usize
+    requires { ⌜ 6 ≤ length (now out) ⌝ }
+    ensures size { λ r. ⌜ r ≤ 6 ⌝ }
+    ensures bytes { λ r. ⌜ take r (now (out .exit)) ≡ numbered (letter ∷ []) n ⌝ }
+    ensures kept { λ _. ⌜ length (now (out .exit)) ≡ length (now (out .entry)) ⌝ }
+{
+    writing::put_numbered(out, 0, letter, n)
+}
+
 // Whether neither listing names the method `Q` and n.
 pub fn is_unnamed(
-    new: &[u8],
-    wn: &[u32],
-    tn: Tally,
     old: &[u8],
     wo: &[u32],
     to: Tally,
+    new: &[u8],
+    wn: &[u32],
+    tn: Tally,
     n: usize,
 ) -> bool
     requires { ⌜ Holds (now new) tn (now wn) × Holds (now old) to (now wo) ⌝ }
     ensures { λ r. ⌜ r ≡ isUnnamed (listingOf (now (new .entry)) .methods ++ listingOf (now (old .entry)) .methods) n ⌝ }
 {
     let mut name = [0; 8];
-    let size = writing::put_numbered(&mut name, b'Q', n);
+    let size = put_name(&mut name, b'Q', n);
     let i = held::method_index(new, wn, tn, &name[..size]);
     if i < held::method_count(new, wn, tn) {
         return false;
@@ -146,13 +155,13 @@ pub fn is_unnamed(
 }
 
 // The number of the filler method.
-pub fn method_number(new: &[u8], wn: &[u32], tn: Tally, old: &[u8], wo: &[u32], to: Tally) -> usize
+pub fn method_number(old: &[u8], wo: &[u32], to: Tally, new: &[u8], wn: &[u32], tn: Tally) -> usize
     requires { ⌜ Holds (now new) tn (now wn) × Holds (now old) to (now wo) ⌝ }
     ensures { λ r. ⌜ (r ≡ firstNumber (isUnnamed (listingOf (now (new .entry)) .methods ++ listingOf (now (old .entry)) .methods))) × (r < 100) ⌝ }
 {
     let mut n = 0;
     while n < 99 {
-        if is_unnamed(new, wn, tn, old, wo, to, n) {
+        if is_unnamed(old, wo, to, new, wn, tn, n) {
             return n;
         }
         n += 1;

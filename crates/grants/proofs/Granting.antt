@@ -1,39 +1,20 @@
 -- Whom a listing grants at a place, from the table of its side: laws in the shape of the code.
-use mathlib.Core.Path.{_≡_, refl, sym, ap, _∙_}
+use mathlib.Core.Path.{_≡_, refl, sym, ap, ap₂, subst, _∙_}
 use mathlib.Core.Bool.{Bool, true, false, not, cond}
 use mathlib.Core.List.{List}
 use Prim.Native.Nat.{ℕ, zero, suc, _+_, _-_, _*_, _/_, _%_, _^_, _≤_, _<_}
 use native.Mathlib.Nat.{mod-eq-of-lt}
 use native.Mathlib.Omega.{arith}
-use lib.ListN.{length, getD}
+use lib.ListN.{length, getD, set}
 use lib.Dec.{eqb, ltb}
+use lib.Bits.{bitOr, or-step, or-shr, or-mod, or-zero-r}
 use borrow.Author.Tests.{lt-ltb, le-ltb, ne-eqb}
-use Rattle.reading.specs.declared.held.Access.{Access}
-use Rattle.reading.specs.declared.held.Access.the-variants.{Open, Closed, ByRole}
 use Rattle.reading.specs.Sets.{digit}
 use Rattle.deciding.specs.Joinings.{nothingJoined, joinWith}
 use Rattle.deciding.specs.declared.joining.Joined.{Joined}
-use Rattle.grants.specs.Sides.{accessFrom, accessIn, joinedAlong, granted, grantsIn, rowIn}
-use Rattle.grants.proofs.Stores.{Filled, fill-start, filled-listed}
-
--- ---- what the table says of a line
-module _ (side : List ℕ) (k : ℕ) where
-  -- mark 0
-  pub access-open : getD side (128 + k) 0 ≡ 0 → Open ≡ accessIn side k
-  access-open e = rw e
-
-  -- mark 1
-  pub access-closed : getD side (128 + k) 0 ≡ 1 → Closed ≡ accessIn side k
-  access-closed e = rw e
-
-  -- any other mark
-  pub access-by-role : (x : ℕ) → (getD side (128 + k) 0 ≡ 0 → ⊥) → (getD side (128 + k) 0 ≡ 1 → ⊥) → x ≡ getD side (256 + k) 0 → ByRole x ≡ accessIn side k
-  access-by-role x p q e = go (getD side (128 + k) 0) p q
-    where
-      go : (n : ℕ) → (n ≡ 0 → ⊥) → (n ≡ 1 → ⊥) → ByRole x ≡ accessFrom n (getD side (256 + k) 0)
-      go zero p q = absurd (p refl)
-      go (suc zero) p q = absurd (q refl)
-      go (suc (suc n)) p q = ap ByRole e
+use Rattle.grants.specs.Sides.{everyone, accessFrom, accessIn, joinedAlong, granted, grantsIn, listed, rowIn}
+use Rattle.grants.specs.Codes.{codeOf, joinedIn, none, codeFor, joinedWith, grantedAt, Along}
+use Rattle.grants.proofs.Stores.{Filled, fill-start, filled-listed, Mixing, mix-start, mix-more, listed-length, listed-at, listed-same}
 
 -- ---- along the lines with one text
 -- the next of them
@@ -66,84 +47,201 @@ module _ (side : List ℕ) (n m : ℕ) where
   along-last zero k j h = refl
   along-last (suc f) k j h = rw (le-ltb k n h)
 
--- the lines from k on are still to be joined with j
-pub record Joining (side : List ℕ) (n m first k : ℕ) (j : Joined) : Type 0 where
-  pub due : joinedAlong n side n m first nothingJoined ≡ joinedAlong n side n m k j
+-- ---- what is joined, as one number
+-- a digit of two numbers taken together, where the last is 1 there, or 0
+digit-made : (k x c : ℕ) → c / 2 ^ k % 2 ≡ 1 → bitOr x c / 2 ^ k % 2 ≡ 1
+digit-made k x c e = omega (arith, or-shr x c k, or-step (x / 2 ^ k) (c / 2 ^ k))
 
-module _ (side : List ℕ) (n m first : ℕ) where
+digit-kept : (k x c : ℕ) → c / 2 ^ k % 2 ≡ 0 → bitOr x c / 2 ^ k % 2 ≡ x / 2 ^ k % 2
+digit-kept k x c e = omega (arith, or-shr x c k, or-step (x / 2 ^ k) (c / 2 ^ k))
+
+-- the roles
+low-joined : (x c : ℕ) → bitOr x c % 4294967296 ≡ bitOr (x % 4294967296) (c % 4294967296)
+low-joined x c = or-mod x c 32
+
+-- one constraint more
+join-coded : (x : ℕ) (mark r : ℕ) → r < 4294967296 → joinedIn (bitOr x (codeOf (accessFrom mark r))) ≡ joinWith (joinedIn x) (accessFrom mark r)
+unfolding joinedIn
+join-coded x zero r h =
+    rw (digit-made 32 x 12884901888 refl, digit-kept 34 x 12884901888 refl, digit-made 33 x 12884901888 refl, low-joined x 12884901888, or-zero-r (x % 4294967296))
+join-coded x (suc zero) r h =
+    rw (digit-made 32 x 21474836480 refl, digit-made 34 x 21474836480 refl, digit-kept 33 x 21474836480 refl, low-joined x 21474836480, or-zero-r (x % 4294967296))
+join-coded x (suc (suc m)) r h =
+    let a : (4294967296 + r) / 4294967296 % 2 ≡ 1 = omega arith in
+    let b : (4294967296 + r) / 17179869184 % 2 ≡ 0 = omega arith in
+    let d : (4294967296 + r) / 8589934592 % 2 ≡ 0 = omega arith in
+    let l : (4294967296 + r) % 4294967296 ≡ r = omega arith in
+    rw (digit-made 32 x (4294967296 + r) a, digit-kept 34 x (4294967296 + r) b, digit-kept 33 x (4294967296 + r) d, low-joined x (4294967296 + r), l)
+
+-- ---- what a line says
+module _ (side : List ℕ) (k : ℕ) where
+  -- mark 0
+  pub code-open : getD side (128 + k) 0 ≡ 0 → 12884901888 ≡ codeOf (accessIn side k)
+  code-open e = rw e
+
+  -- mark 1
+  pub code-closed : getD side (128 + k) 0 ≡ 1 → 21474836480 ≡ codeOf (accessIn side k)
+  code-closed e = rw e
+
+  -- any other mark
+  pub code-by-role : (x : ℕ) → (getD side (128 + k) 0 ≡ 0 → ⊥) → (getD side (128 + k) 0 ≡ 1 → ⊥) → x ≡ getD side (256 + k) 0 → 4294967296 + x ≡ codeOf (accessIn side k)
+  code-by-role x p q e = go (getD side (128 + k) 0) p q
+    where
+      go : (n : ℕ) → (n ≡ 0 → ⊥) → (n ≡ 1 → ⊥) → 4294967296 + x ≡ codeOf (accessFrom n (getD side (256 + k) 0))
+      go zero p q = absurd (p refl)
+      go (suc zero) p q = absurd (q refl)
+      go (suc (suc n)) p q = ap (λ (y : ℕ). 4294967296 + y) e
+
+-- for a method that it covers
+module _ (cover code m : ℕ) (l : m < 32) where
+  pub code-taken : cover / 2 ^ (m % 32) % 2 ≡ 1 → code ≡ codeFor cover code m
+  code-taken t = let d : digit m cover ≡ 1 = rw (mod-eq-of-lt l) at t in rw d
+
+  -- and for another
+  pub code-passed : (cover / 2 ^ (m % 32) % 2 ≡ 1 → ⊥) → 0 ≡ codeFor cover code m
+  code-passed t = let d : eqb (digit m cover) 1 ≡ false = ne-eqb (digit m cover) 1 (rw (mod-eq-of-lt l) at t) in rw d
+
+-- joined in a row
+module _ (cover code : ℕ) (before : List ℕ) where
+  pub line-start : length before ≡ 32 → Mixing 32 (joinedWith cover code before) before 0 before
+  line-start e = mix-start 32 (joinedWith cover code before) before e
+
+  pub line-more : (m v : ℕ) (out : List ℕ) → Mixing 32 (joinedWith cover code before) before m out → m < 32 → v ≡ codeFor cover code m
+      → Mixing 32 (joinedWith cover code before) before (m + 1) (set out m (bitOr (getD out m 0) v))
+  line-more m v out M h e =
+      mix-more 32 (joinedWith cover code before) before m (bitOr (getD out m 0) v) out M h (ap₂ bitOr (M .left m (omega arith)) e)
+
+-- ---- the lines from k on are still to be joined in the row
+pub record Joining (side : List ℕ) (n first k : ℕ) (row : List ℕ) : Type 0 where
+  pub size : length row ≡ 32
+  pub due : (m : ℕ) → m < 32 → joinedAlong n side n m first nothingJoined ≡ joinedAlong n side n m k (joinedIn (getD row m 0))
+
+module _ (side : List ℕ) (n first : ℕ) where
   -- all of them
-  pub along-start : Joining side n m first first nothingJoined
-  along-start = record { due = refl }
+  pub along-start : (row : List ℕ) → row ≡ listed 32 none → Joining side n first first row
+  unfolding joinedIn
+  along-start row e =
+      record {
+        size = ap length e ∙ listed-length 32 none;
+        due = λ m h. ap (λ (x : ℕ). joinedAlong n side n m first (joinedIn x)) (sym (ap (λ (r : List ℕ). getD r m 0) e ∙ listed-at 32 none m h));
+      }
 
-  module _ (k : ℕ) (j : Joined) (J : Joining side n m first k j) where
-    module _ (g : ℕ) (h : k < n) (l : m < 32) (e : g ≡ getD side (384 + k) 0) where
-      -- a line that covers the method
-      pub along-takes : (a : Access) (j′ : Joined) → getD side k 0 / 2 ^ (m % 32) % 2 ≡ 1 → a ≡ accessIn side k → j′ ≡ joinWith j a → Joining side n m first (k + 1 + g) j′
-      along-takes a j′ t p q =
-          let d : digit m (getD side k 0) ≡ 1 = rw (mod-eq-of-lt l) at t in
-          let w : withLine side m k j ≡ j′ = rw d (sym (q ∙ ap (joinWith j) p)) in
-          record { due = J .due ∙ along-step side n m n k j (omega arith) h ∙ rw (w, e) }
-
-      -- one that doesn't
-      pub along-passes : (getD side k 0 / 2 ^ (m % 32) % 2 ≡ 1 → ⊥) → Joining side n m first (k + 1 + g) j
-      along-passes t =
-          let d : eqb (digit m (getD side k 0)) 1 ≡ false = ne-eqb (digit m (getD side k 0)) 1 (rw (mod-eq-of-lt l) at t) in
-          let w : withLine side m k j ≡ j = rw d in
-          record { due = J .due ∙ along-step side n m n k j (omega arith) h ∙ rw (w, e) }
+  module _ (k : ℕ) (row : List ℕ) (J : Joining side n first k row) where
+    -- a line more
+    pub along-more : (g code : ℕ) (row′ : List ℕ) → k < n → g ≡ getD side (384 + k) 0 → code ≡ codeOf (accessIn side k) → getD side (256 + k) 0 < 4294967296
+        → row′ ≡ listed 32 (joinedWith (getD side k 0) code row) → Joining side n first (k + 1 + g) row′
+    along-more g code row′ h e f s q =
+        record {
+          size = ap length q ∙ listed-length 32 (joinedWith (getD side k 0) code row);
+          due = λ m l. J .due m l ∙ along-step side n m n k (joinedIn (getD row m 0)) (omega arith) h
+              ∙ ap₂ (joinedAlong n side n m) (let z : past side k ≡ k + 1 + g = omega arith in z)
+              (line m (eqb (digit m (getD side k 0)) 1)
+              ∙ ap (λ (c : ℕ). joinedIn (bitOr (getD row m 0) (cond (eqb (digit m (getD side k 0)) 1) c 0))) (sym f)
+              ∙ ap joinedIn (sym (ap (λ (r : List ℕ). getD r m 0) q ∙ listed-at 32 (joinedWith (getD side k 0) code row) m l)));
+        }
+      where
+        line : (m : ℕ) (b : Bool) → cond b (joinWith (joinedIn (getD row m 0)) (accessIn side k)) (joinedIn (getD row m 0))
+            ≡ joinedIn (bitOr (getD row m 0) (cond b (codeOf (accessIn side k)) 0))
+        line m true = sym (join-coded (getD row m 0) (getD side (128 + k) 0) (getD side (256 + k) 0) s)
+        line m false = ap joinedIn (sym (or-zero-r (getD row m 0)))
 
     -- none is left
-    pub along-end : n ≤ k → j ≡ joinedAlong n side n m first nothingJoined
-    along-end h = sym (J .due ∙ along-last side n m n k j h)
+    pub along-end : n ≤ k → Along side n first row
+    along-end h = record { size = J .size; all = λ m l. sym (J .due m l ∙ along-last side n m n k (joinedIn (getD row m 0)) h) }
+
+pub joining-size : (side : List ℕ) (n first k : ℕ) (row : List ℕ) → Joining side n first k row → length row ≡ 32
+joining-size side n first k row J = J .size
 
 -- ---- whom that which is joined grants
-module _ (j : Joined) where
+module _ (x : ℕ) where
   -- no constraint: everyone
-  pub granted-none : not (j .any) ≡ true → 18446744073709551615 ≡ granted j
-  unfolding granted
-  granted-none a = rw a
+  pub granted-none : (x / 4294967296 % 2 ≡ 1 → ⊥) → 18446744073709551615 ≡ granted (joinedIn x)
+  unfolding granted joinedIn
+  granted-none a = rw (ne-eqb (x / 4294967296 % 2) 1 a)
 
-  -- one that closes: nobody
-  pub granted-closed : not (j .any) ≡ false → j .closed ≡ true → 0 ≡ granted j
-  unfolding granted
-  granted-closed a c = rw (a, c)
+  module _ (a : x / 4294967296 % 2 ≡ 1) where
+    -- one that closes: nobody
+    pub granted-closed : x / 17179869184 % 2 ≡ 1 → 0 ≡ granted (joinedIn x)
+    unfolding granted joinedIn
+    granted-closed c = rw (a, c)
 
-  -- one that is `open`: everyone
-  pub granted-free : not (j .any) ≡ false → j .closed ≡ false → j .free ≡ true → 18446744073709551615 ≡ granted j
-  unfolding granted
-  granted-free a c f = rw (a, c, f)
+    module _ (c : x / 17179869184 % 2 ≡ 1 → ⊥) where
+      -- one that is `open`: everyone
+      pub granted-free : x / 8589934592 % 2 ≡ 1 → 18446744073709551615 ≡ granted (joinedIn x)
+      unfolding granted joinedIn
+      granted-free f = rw (a, ne-eqb (x / 17179869184 % 2) 1 c, f)
 
-  -- else those with one of the roles
-  pub granted-roles : not (j .any) ≡ false → j .closed ≡ false → j .free ≡ false → 4 * (j .roles % 4294967296) ≡ granted j
-  unfolding granted
-  granted-roles a c f = rw (a, c, f)
+      -- else those with one of the roles
+      pub granted-roles : (x / 8589934592 % 2 ≡ 1 → ⊥) → 4 * (x % 4294967296) ≡ granted (joinedIn x)
+      unfolding granted joinedIn
+      granted-roles f = let l : x % 4294967296 % 4294967296 ≡ x % 4294967296 = omega arith in rw (a, ne-eqb (x / 17179869184 % 2) 1 c, ne-eqb (x / 8589934592 % 2) 1 f, l)
 
--- ---- at a place
-module _ (side : List ℕ) (n place m : ℕ) where
-  -- no best match: everyone
-  pub grants-none : place ≡ 0 → 18446744073709551615 ≡ grantsIn side n place m
-  unfolding grantsIn
-  grants-none e = rw e
+-- in each number of a row
+module _ (before : List ℕ) where
+  pub grant-start : length before ≡ 32 → Mixing 32 (grantedAt before) before 0 before
+  grant-start e = mix-start 32 (grantedAt before) before e
 
-  -- what its lines come to grants
-  pub grants-line : (j : Joined) (r : ℕ) → (place ≡ 0 → ⊥) → j ≡ joinedAlong n side n m (place - 1) nothingJoined → r ≡ granted j → r ≡ grantsIn side n place m
-  unfolding grantsIn
-  grants-line j r p e q = go place p e
-    where
-      go : (p : ℕ) → (p ≡ 0 → ⊥) → j ≡ joinedAlong n side n m (p - 1) nothingJoined → r ≡ grantsIn side n p m
-      go zero p e = absurd (p refl)
-      go (suc p) z e = let d : suc p - 1 ≡ p = omega arith in q ∙ ap granted (rw d at e)
+  pub grant-more : (m v : ℕ) (out : List ℕ) → Mixing 32 (grantedAt before) before m out → m < 32 → v ≡ granted (joinedIn (getD out m 0))
+      → Mixing 32 (grantedAt before) before (m + 1) (set out m v)
+  grant-more m v out M h e = mix-more 32 (grantedAt before) before m v out M h (e ∙ ap (λ (x : ℕ). granted (joinedIn x)) (M .left m (omega arith)))
 
--- ---- for each method
-module _ (side : List ℕ) (n place : ℕ) (row : List ℕ) where
-  -- none yet
-  pub row-start : length row ≡ 32 → Filled 32 32 0 (grantsIn side n place) row
-  row-start e = fill-start 32 32 (grantsIn side n place) row e (omega arith)
+-- ---- a row in which nothing is joined
+pub clear-start : (row : List ℕ) → length row ≡ 32 → Filled 32 32 0 none row
+clear-start row e = fill-start 32 32 none row e (omega arith)
 
-  -- all of them
-  pub row-all : (m : ℕ) → Filled 32 32 m (grantsIn side n place) row → 32 ≤ m → row ≡ rowIn side n place
+pub clear-all : (m : ℕ) (row : List ℕ) → Filled 32 32 m none row → 32 ≤ m → row ≡ listed 32 none
+clear-all m row F h = filled-listed 32 m none row F h
+
+pub clear-size : (row : List ℕ) → row ≡ listed 32 none → length row ≡ 32
+clear-size row e = ap length e ∙ listed-length 32 none
+
+-- ---- whom the table grants at a place
+module _ (side : List ℕ) (n place : ℕ) (before row : List ℕ) (made : row ≡ listed 32 (grantedAt before)) where
+  -- number by number
+  row-by-number : ((m : ℕ) → m < 32 → grantedAt before m ≡ grantsIn side n place m) → row ≡ rowIn side n place
   unfolding rowIn
-  row-all m F h = filled-listed 32 m (grantsIn side n place) row F h
+  row-by-number e = made ∙ listed-same 32 (grantedAt before) (grantsIn side n place) e
 
--- made anew, where it is not kept
-pub row-made : (side : List ℕ) (n place : ℕ) (keep : Bool) (before row : List ℕ) → keep ≡ false → row ≡ rowIn side n place → row ≡ cond keep before (rowIn side n place)
-row-made side n place keep before row e f = rw e f
+  -- no best match: everyone
+  pub row-none : before ≡ listed 32 none → place ≡ 0 → row ≡ rowIn side n place
+  unfolding grantsIn granted joinedIn
+  row-none e z =
+      row-by-number (λ m l. rw z (ap (λ (x : ℕ). granted (joinedIn x)) (ap (λ (r : List ℕ). getD r m 0) e ∙ listed-at 32 none m l)))
+
+  -- what its lines come to
+  pub row-line : Along side n (place - 1) before → (place ≡ 0 → ⊥) → row ≡ rowIn side n place
+  unfolding grantsIn
+  row-line A z = row-by-number (λ m l. go m (grantedAt before m) place z (ap granted (A .all m l)))
+    where
+      go : (m g p : ℕ) → (p ≡ 0 → ⊥) → g ≡ granted (joinedAlong n side n m (p - 1) nothingJoined) → g ≡ grantsIn side n p m
+      go m g zero z e = absurd (z refl)
+      go m g (suc p) z e = let d : suc p - 1 ≡ p = omega arith in e ∙ ap (λ (q : ℕ). granted (joinedAlong n side n m q nothingJoined)) d
+
+-- a row has a set for each method
+pub row-size : (side : List ℕ) (n place : ℕ) (row : List ℕ) → row ≡ rowIn side n place → length row ≡ 32
+unfolding rowIn
+row-size side n place row e = ap length e ∙ listed-length 32 (grantsIn side n place)
+
+-- that of the same place is the same
+pub row-kept : (side : List ℕ) (n had place : ℕ) (row : List ℕ) → row ≡ rowIn side n had → had ≡ place → row ≡ rowIn side n place
+row-kept side n had place row e q = e ∙ ap (rowIn side n) q
+
+-- ---- a set of callers is a number of 64 digits
+granted-small : (j : Joined) → granted j ≤ everyone
+unfolding granted
+granted-small j = go (not (j .any)) (j .closed) (j .free)
+  where
+    go : (a b c : Bool) → cond a everyone (cond b 0 (cond c everyone (4 * (j .roles % 4294967296)))) ≤ everyone
+    go true b c = omega arith
+    go false true c = omega arith
+    go false false true = omega arith
+    go false false false = omega arith
+
+pub grants-small : (side : List ℕ) (n place m : ℕ) → grantsIn side n place m ≤ everyone
+unfolding grantsIn
+grants-small side n zero m = omega arith
+grants-small side n (suc k) m = granted-small (joinedAlong n side n m k nothingJoined)
+
+pub row-small : (side : List ℕ) (n place m : ℕ) → m < 32 → getD (rowIn side n place) m 0 ≤ everyone
+unfolding rowIn
+row-small side n place m h = subst (λ (x : ℕ). x ≤ everyone) (sym (listed-at 32 (grantsIn side n place) m h)) (grants-small side n place m)

@@ -3,18 +3,18 @@
 --   Grantees        the table grants at a path's place whom the listing grants there
 --   FreshRoles      the first caller, by sets
 --   Grants          what two places come to is what the listings come to
+--   OwnStems        the best line of a pattern's own stem
+--   Stems           the best line of a stem is that of its trial path
 -- The code, module by module:
 --   Stores          a table that a loop fills place by place
---   SideLines       sides: the table of a side
---   Granting        rows: whom it grants
---   Pairings        methods: the trial methods by their numbers
+--   Granting        rows: whom it grants, line by line in numbers
 --   Judgings        judging: two rows, two places, a path
 pub mod Chains
 pub mod Grantees
 pub mod FreshRoles
 pub mod Stores
 pub mod Grants
-pub mod SideLines
+pub mod OwnStems
+pub mod Stems
 pub mod Granting
-pub mod Pairings
 pub mod Judgings

@@ -37,6 +37,11 @@ callerAt ns zero = nobody
 callerAt ns (suc zero) = holder []
 callerAt ns (suc (suc i)) = one (getD ns i [])
 
+-- c is the number of one who may be shown: not logged in, or with a role; never logged in without one
+pub record Showable (ns : List Text) (c : ℕ) : Type 0 where
+  pub within : c ≤ length ns + 1
+  pub other : c ≡ 1 → ⊥
+
 -- all of them
 abbrev pub everyone : ℕ
 everyone = 18446744073709551615

@@ -31,9 +31,9 @@ pub extern "C" fn budquarry_decide(
 }
 
 #[no_mangle]
-pub extern "C" fn budquarry_compare(
-    old: &[u8],
-    new: &[u8],
+pub extern "C" fn budquarry_compare<'a>(
+    old: &'a [u8],
+    new: &'a [u8],
     answer: &mut [u8],
     work: &mut [u32],
 ) -> Comparison

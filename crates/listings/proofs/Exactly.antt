@@ -14,9 +14,9 @@ use Rattle.text.specs.Texts.{Text}
 use Rattle.text.specs.Lines.{Line, linesOf}
 use Rattle.listings.specs.Records.{Record, formed}
 use Rattle.listings.specs.Limits.{mostBytes}
-use Rattle.listings.specs.Refusals.{accepted, refusal, breaks, readFrom, isFirstLine, readLines, readingOf}
+use Rattle.listings.specs.Refusals.{accepted, refusal, numberOf, breaks, readFrom, isFirstLine, readLines, readingOf}
 use Rattle.listings.specs.Listings.{recordsIn}
-use Rattle.listings.specs.Rules.{lineAt, recordsBefore, isEnded, whereLine, isNone, someBreaks, recordBreaks, brokenIn, broken, orderOf, isEarlier}
+use Rattle.listings.specs.Rules.{lineAt, recordsBefore, isEnded, whereLine, isNone, someBreaks, recordBreaks, brokenIn, broken, orderOf, isEarlier, rowNumber}
 use Rattle.listings.specs.declared.answers.Fault.{Fault}
 use Rattle.listings.specs.declared.answers.Fault.the-variants.{LongListing, BadFirstLine, BadForm, WrongPlace, BadName, BadPattern, RoleTwice, PastMost, NoEnd}
 use Rattle.text.proofs.Truths.{not-so}
@@ -201,3 +201,35 @@ refused-exactly s f n = (λ e. rw e at (reading-first s), first-one (broken s) (
 -- a listing is accepted exactly when no rule is broken at any line
 pub accepted-exactly : (s : Text) → (readingOf s ≡ accepted) ↔ ((f : Fault) (n : ℕ) → broken s f n ≡ false)
 accepted-exactly s = (λ e. rw e at (reading-first s), first-one (broken s) (readingOf s) accepted (reading-first s))
+
+-- ---- the numbers
+-- a refusal's number is that of its row in 01's table
+pub number-right : (f : Fault) → numberOf f ≡ rowNumber f
+number-right LongListing = refl
+number-right BadFirstLine = refl
+number-right BadForm = refl
+number-right WrongPlace = refl
+number-right BadName = refl
+number-right BadPattern = refl
+number-right RoleTwice = refl
+number-right PastMost = refl
+number-right NoEnd = refl
+
+-- the place of a number in the rules' order
+abbrev orderAt : ℕ → ℕ
+orderAt k = cond (eqb k 8) 7 (cond (eqb k 9) 6 (k - 2))
+
+order-at : (f : Fault) → orderAt (rowNumber f) ≡ orderOf f
+order-at LongListing = refl
+order-at BadFirstLine = refl
+order-at BadForm = refl
+order-at WrongPlace = refl
+order-at BadName = refl
+order-at BadPattern = refl
+order-at RoleTwice = refl
+order-at PastMost = refl
+order-at NoEnd = refl
+
+-- no two rules have the same number
+pub one-number : (f g : Fault) → rowNumber f ≡ rowNumber g → f ≡ g
+one-number f g e = one-rule f g (sym (order-at f) ∙ ap orderAt e ∙ order-at g)

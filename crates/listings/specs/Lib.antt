@@ -9,6 +9,7 @@
 --   Rules     the plain form of the refusals, for the theorem that ties it to Refusals
 -- The last is for the proofs alone, and no public statement rests on a reader's believing it:
 --   Heads     how the code takes a line's head and a record's place
+-- docs/READING.md explains the notation.
 pub mod Records
 pub mod Patterns
 pub mod Names

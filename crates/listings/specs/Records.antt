@@ -31,12 +31,12 @@ alone n =
 unfoldable pub withField : Text → Named
 unfolding same
 withField n =
-    cond (same n (bytes "method")) (Known Method)
-    (cond (same n (bytes "omit")) (Known Omit)
-    (cond (same n (bytes "pattern")) (Known Pattern)
-    (cond (same n (bytes "allow")) (Known Allow)
-    (cond (same n (bytes "role")) (Known Role)
+    cond (same n (bytes "role")) (Known Role)
     (cond (same n (bytes "constraint")) (Known Constraint)
+    (cond (same n (bytes "allow")) (Known Allow)
+    (cond (same n (bytes "pattern")) (Known Pattern)
+    (cond (same n (bytes "method")) (Known Method)
+    (cond (same n (bytes "omit")) (Known Omit)
     Unknown)))))
 
 abbrev pub recordNamed : Named → Text → Option Record

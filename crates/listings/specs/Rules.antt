@@ -97,3 +97,15 @@ orderOf NoEnd = 8
 -- "lines top down": rule f at line m comes before rule g at line n
 abbrev pub isEarlier : Fault → ℕ → Fault → ℕ → Bool
 isEarlier f m g n = ltb m n || (eqb m n && ltb (orderOf f) (orderOf g))
+
+-- the number of each rule, as 01's table has it, in its order. It is written out here and in Refusals, so that the theorems check that one (`number-right`).
+abbrev pub rowNumber : Fault → ℕ
+rowNumber LongListing = 2
+rowNumber BadFirstLine = 3
+rowNumber BadForm = 4
+rowNumber WrongPlace = 5
+rowNumber BadName = 6
+rowNumber BadPattern = 7
+rowNumber RoleTwice = 9
+rowNumber PastMost = 8
+rowNumber NoEnd = 10

@@ -15,16 +15,34 @@ pub enum Fault {
     NoEnd,
 }
 
-// The numbers of the refusals that are about no listing.
+// 01's numbers of all refusals, those of a listing and those that are about none; include/budquarry.h has them by the same names.
 pub const SHORT_TABLE: u32 = 1;
 
-pub const SMALL_ANSWER: u32 = 14;
+pub const LONG_LISTING: u32 = 2;
+
+pub const BAD_FIRST_LINE: u32 = 3;
+
+pub const BAD_FORM: u32 = 4;
+
+pub const WRONG_PLACE: u32 = 5;
+
+pub const BAD_NAME: u32 = 6;
+
+pub const BAD_PATTERN: u32 = 7;
+
+pub const PAST_MOST: u32 = 8;
+
+pub const ROLE_TWICE: u32 = 9;
+
+pub const NO_END: u32 = 10;
 
 pub const BAD_PATH: u32 = 11;
 
 pub const BAD_METHOD: u32 = 12;
 
 pub const BAD_CALLER: u32 = 13;
+
+pub const SMALL_ANSWER: u32 = 14;
 
 // What a call hands back to C: all three are 0 where nothing is refused.
 #[repr(C)]
@@ -39,14 +57,14 @@ pub fn number(f: Fault) -> u32
     ensures { λ r. ⌜ r ≡ numberOf f ⌝ }
 {
     match f {
-        Fault::LongListing => 2,
-        Fault::BadFirstLine => 3,
-        Fault::BadForm => 4,
-        Fault::WrongPlace => 5,
-        Fault::BadName => 6,
-        Fault::BadPattern => 7,
-        Fault::RoleTwice => 9,
-        Fault::PastMost => 8,
-        Fault::NoEnd => 10,
+        Fault::LongListing => LONG_LISTING,
+        Fault::BadFirstLine => BAD_FIRST_LINE,
+        Fault::BadForm => BAD_FORM,
+        Fault::WrongPlace => WRONG_PLACE,
+        Fault::BadName => BAD_NAME,
+        Fault::BadPattern => BAD_PATTERN,
+        Fault::RoleTwice => ROLE_TWICE,
+        Fault::PastMost => PAST_MOST,
+        Fault::NoEnd => NO_END,
     }
 }

@@ -1,12 +1,13 @@
 -- What the crates above read off the work table: its numbers, and the texts that they name, are those of the listing that it holds.
 use mathlib.Core.Path.{_≡_, refl, sym, ap, ap₂, _∙_}
+use mathlib.Core.Bool.{Bool}
 use mathlib.Core.List.{List, [], _∷_, map}
 use Prim.Native.Nat.{ℕ, zero, suc, _+_, _*_, _^_, _≤_, _<_}
 use native.Mathlib.Omega.{arith}
 use lib.ListN.{length, getD, List·getD-map}
 use lib.Dec.{T, leb, leb→le}
 use borrow.Author.Tests.{ne-eqb}
-use Rattle.text.specs.Texts.{Text, indexOf}
+use Rattle.text.specs.Texts.{Text, same, indexOf}
 use Rattle.listings.specs.Listings.{listingOf, recordsOf, patternsOf}
 use Rattle.reading.specs.Views.{coverAt, accessAt}
 use Rattle.reading.specs.Tables.{region, textAt, stamped, textsAt, tablesAt, spanAt, spansAt}
@@ -115,6 +116,9 @@ module _ (s : Text) (t : Tally) (w : List ℕ) (H : Holds s t w) where
     pub rule-text : (u : Text) → u ≡ spanAt s (getD w (64 + k) 0) → u ≡ getD (patternsOf (listingOf s)) k []
     unfolding tablesAt spansAt
     rule-text u e = e ∙ named-by (spanAt s) (span-none s) w 64 (t .patterns) (patternsOf (listingOf s)) k (held .patterns) here
+
+    pub rule-same : (t′ : Text) (r : Bool) → r ≡ same (spanAt s (getD w (64 + k) 0)) t′ → r ≡ same (getD (patternsOf (listingOf s)) k []) t′
+    rule-same t′ r e = e ∙ ap (λ (u : Text). same u t′) (rule-text (spanAt s (getD w (64 + k) 0)) refl)
 
     -- ---- its collection
     module _ (c : ℕ) (e : c ≡ getD w (192 + k) 0) where

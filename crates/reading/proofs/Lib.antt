@@ -1,4 +1,5 @@
 -- The laws and the theorems of reading. For the customer:
+--   Demands     what is asked of the call holds
 --   Unique      the statement settles the outcome
 --   Firsts      when each refusal of the call is given
 -- For the crates above:
@@ -12,7 +13,7 @@
 --   Effects     steps: what each record comes to
 --   Cuts        lines: a text cut at its tabs and bytes 10
 --   Lineheads   how a line begins
---   Linecuts    a line cut where the reader stands, and what it comes to
+--   Linecuts    a line cut at a place, and what it comes to
 --   Tokens      what the walks over the struct that holds the text share
 --   Walks       from a record's step to its line, and on to the whole reading
 --   Loads       the whole of reading
@@ -45,4 +46,5 @@ pub mod Rulings
 pub mod Holdings
 pub mod Unique
 pub mod Firsts
+pub mod Demands
 pub mod Accepted

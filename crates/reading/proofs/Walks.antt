@@ -14,8 +14,8 @@ use lib.ListN.{length, take, drop, getD, drop-of-length-le}
 use Rattle.text.specs.Texts.{Text, newline, part}
 use Rattle.text.specs.Lines.{Line, before, linesOf, toFieldEnd}
 use Rattle.listings.specs.Records.{Record, isKind, formed, alone, withField, recordNamed}
-use Rattle.reading.specs.Room.{listingRoom}
 use Rattle.reading.specs.Tables.{Tables, Fits, Stepping, next, wrong, Lining, bad, moved, ended, Filling, filled, unfilled, closing, fillFrom, fillShown, FillFits, FillOutcome, closedAt, startTables, region, textsAt, spansAt, lineShown, stepFrom, recordWith, isEndKind, linedBy, lineWith, lineFrom, tablesAt, stepShown, StepFits, StepOutcome, LineEnd, Gone, LineFits, LineOutcome}
+use Rattle.reading.specs.Readers.{Ready}
 use Rattle.reading.specs.Tallies.{startTally}
 use Rattle.reading.specs.declared.reader.Loaded.{Loaded}
 use Rattle.reading.specs.declared.reader.Loaded.the-variants.{Whole, Not}
@@ -128,43 +128,43 @@ closed-fits s t d w f = go (ltb (d .at) (length s))
     go true = tt
     go false = f
 
--- the loop: the reading of the whole is that from the cursor on
-pub record Walking (s : Text) (w₀ : List ℕ) (w : List ℕ) (t : Tally) (c : Cursor) : Type 0 where
-  pub due : fillFrom startTables 2 (linesOf (drop 14 s)) ≡ fillFrom (tablesAt s t w) (c .line) (linesOf (drop (c .at) s))
+-- the loop: the reading from the place where it began is that from the cursor on
+pub record Walking (s : Text) (at : ℕ) (w₀ : List ℕ) (w : List ℕ) (t : Tally) (c : Cursor) : Type 0 where
+  pub due : fillFrom startTables 2 (linesOf (drop at s)) ≡ fillFrom (tablesAt s t w) (c .line) (linesOf (drop (c .at) s))
   pub fits : Fits s t w
   pub within : c .at ≤ length s
-  pub few : c .line ≤ c .at
+  pub few : c .line ≤ c .at + 1
   pub same : length w ≡ length w₀
 
-pub walk-starts : (s w : List ℕ) (t : Tally) → t ≡ startTally → length s ≤ 24576 → 14 ≤ length s → listingRoom ≤ length w → Walking s w w t (record { at = 14; line = 2 })
+pub walk-starts : (s w : List ℕ) (at : ℕ) (t : Tally) → t ≡ startTally → length s ≤ 24576 → 1 ≤ at → Ready s at w → Walking s at w w t (record { at = at; line = 2 })
 unfolding tablesAt region textsAt spansAt
-walk-starts s w t e h k r =
+walk-starts s w at t e h k r =
     rw e (record {
       due = refl;
-      fits = record { short = h; room = r; declared = omega arith; roles = omega arith; methods = omega arith; patterns = omega arith; lines = omega arith; collections = omega arith; constraints = omega arith };
-      within = k;
+      fits = record { short = h; room = r .room; declared = omega arith; roles = omega arith; methods = omega arith; patterns = omega arith; lines = omega arith; collections = omega arith; constraints = omega arith };
+      within = r .within;
       few = omega arith;
       same = refl;
     })
 
-module _ (s w₀ w : List ℕ) (t : Tally) (c : Cursor) (v : Walking s w₀ w t c) (out : Lined) (w′ : List ℕ) (o : LineOutcome s c (lineFrom (tablesAt s t w) (linesOf (drop (c .at) s))) out w′) where
-  line-comes : fillFrom startTables 2 (linesOf (drop 14 s)) ≡ fillLining (c .line) (lineShown s out w′)
+module _ (s : List ℕ) (at : ℕ) (w₀ w : List ℕ) (t : Tally) (c : Cursor) (v : Walking s at w₀ w t c) (out : Lined) (w′ : List ℕ) (o : LineOutcome s c (lineFrom (tablesAt s t w) (linesOf (drop (c .at) s))) out w′) where
+  line-comes : fillFrom startTables 2 (linesOf (drop at s)) ≡ fillLining (c .line) (lineShown s out w′)
   line-comes = v .due ∙ by-line (tablesAt s t w) (c .line) (linesOf (drop (c .at) s)) ∙ sym (ap (fillLining (c .line)) (o .answer))
 
-  pub walk-bad : (f : Fault) → out ≡ Bad f → FillOutcome s (fillFrom startTables 2 (linesOf (drop 14 s))) (Not f (c .line)) w′
+  pub walk-bad : (f : Fault) → out ≡ Bad f → FillOutcome s (fillFrom startTables 2 (linesOf (drop at s))) (Not f (c .line)) w′
   unfolding fillLining
   walk-bad f e = record { answer = sym (line-comes ∙ rw e); fits = tt }
 
-  pub walk-closed : (u : Tally) (d : Cursor) (r : Loaded) → out ≡ Ended u d → r ≡ closedAt s u d → FillOutcome s (fillFrom startTables 2 (linesOf (drop 14 s))) r w′
+  pub walk-closed : (u : Tally) (d : Cursor) (r : Loaded) → out ≡ Ended u d → r ≡ closedAt s u d → FillOutcome s (fillFrom startTables 2 (linesOf (drop at s))) r w′
   unfolding fillLining
   walk-closed u d r e q =
       let g : Gone s c u d w′ = subst (λ (x : Lined). LineFits s c x w′) e (o .fits) in
       let n : c .line + 1 ≡ d .line = sym (g .counted) in
       let m : suc (c .line) ≡ d .line = omega arith in
-      let k : fillFrom startTables 2 (linesOf (drop 14 s)) ≡ closing (tablesAt s u w′) (d .line) (linesOf (drop (d .at) s)) = line-comes ∙ rw (e, m) in
+      let k : fillFrom startTables 2 (linesOf (drop at s)) ≡ closing (tablesAt s u w′) (d .line) (linesOf (drop (d .at) s)) = line-comes ∙ rw (e, m) in
       rw q (record { answer = closed-shown s u d w′ ∙ sym k; fits = closed-fits s u d w′ (g .fits) })
 
-  pub walk-on : (u : Tally) (d : Cursor) → out ≡ Moved u d → length w′ ≡ length w → Walking s w₀ w′ u d
+  pub walk-on : (u : Tally) (d : Cursor) → out ≡ Moved u d → length w′ ≡ length w → Walking s at w₀ w′ u d
   unfolding fillLining
   walk-on u d e l =
       let g : Gone s c u d w′ = subst (λ (x : Lined). LineFits s c x w′) e (o .fits) in
@@ -184,6 +184,6 @@ module _ (s w₀ w : List ℕ) (t : Tally) (c : Cursor) (v : Walking s w₀ w t 
       omega (arith, g .on, g .within)
 
 -- the text runs out
-pub walk-ends : (s w₀ w : List ℕ) (t : Tally) (c : Cursor) → Walking s w₀ w t c → length s ≤ c .at → FillOutcome s (fillFrom startTables 2 (linesOf (drop 14 s))) (Not NoEnd (c .line)) w
+pub walk-ends : (s : List ℕ) (at : ℕ) (w₀ w : List ℕ) (t : Tally) (c : Cursor) → Walking s at w₀ w t c → length s ≤ c .at → FillOutcome s (fillFrom startTables 2 (linesOf (drop at s))) (Not NoEnd (c .line)) w
 unfolding fillFrom linesOf
-walk-ends s w₀ w t c v h = record { answer = sym (v .due ∙ rw (drop-of-length-le s h)); fits = tt }
+walk-ends s at w₀ w t c v h = record { answer = sym (v .due ∙ rw (drop-of-length-le s h)); fits = tt }

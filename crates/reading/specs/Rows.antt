@@ -6,8 +6,8 @@ use mathlib.Core.Bool.{Bool, true, false, cond}
 use mathlib.Core.List.{List, [], _∷_, _++_, List·Memᴰ}
 use mathlib.Core.Option.{Option, none, some}
 use Rattle.text.specs.Texts.{Text}
-use Rattle.listings.specs.Refusals.{Reading, accepted, refusal, numberOf, readingOf}
-use Rattle.listings.specs.Rules.{broken, isEarlier}
+use Rattle.listings.specs.Refusals.{Reading, accepted, refusal, readingOf}
+use Rattle.listings.specs.Rules.{broken, isEarlier, rowNumber}
 use Rattle.worktable.specs.Work.{isShort}
 use Rattle.listings.specs.declared.answers.Fault.{Fault}
 use Rattle.listings.specs.declared.answers.Report.{Report}
@@ -24,7 +24,7 @@ row number isGiven = cond isGiven (some (report number 0 0)) none
 -- 2 to 10, for the listing of a side, "1 old or only, 2 new": what reading alone answers
 abbrev pub listingRow : ℕ → Reading → Option Report
 listingRow side accepted = none
-listingRow side (refusal f n) = some (report (numberOf f) side n)
+listingRow side (refusal f n) = some (report (rowNumber f) side n)
 
 -- behind all others: "Without a refusal number, side and line are 0."
 abbrev pub lastRow : Option Report
@@ -40,6 +40,10 @@ pub record FirstGiven (rows : List (Option Report)) (r : Report) : Type 0 where
 -- ---- rule f at line n is the first that the listing breaks, by the plain form of Rules
 abbrev pub FirstBroken : Text → Fault → ℕ → Type 0
 FirstBroken s f n = (broken s f n ≡ true) × ((g : Fault) (m : ℕ) → isEarlier g m f n ≡ true → broken s g m ≡ false)
+
+-- the listing breaks no rule at any line
+abbrev pub Unbroken : Text → Type 0
+Unbroken s = (f : Fault) (n : ℕ) → broken s f n ≡ false
 
 -- ---- `budquarry_read`, in 01's order
 unfoldable pub readRows : Text → List ℕ → List (Option Report)

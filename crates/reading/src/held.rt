@@ -5,7 +5,7 @@ ghost use Prim.Native.Nat.{_<_};
 ghost use mathlib.Core.List.{[]};
 ghost use lib.ListN.{length, getD};
 ghost use Rattle.listings.specs.Listings.{listingOf, patternsOf};
-ghost use Rattle.text.specs.Texts.{indexOf};
+ghost use Rattle.text.specs.Texts.{same, indexOf};
 ghost use Rattle.reading.specs.Holds.{Holds};
 ghost use Rattle.reading.specs.Views.{coverAt, accessAt};
 use crate::tables;
@@ -32,6 +32,14 @@ pub fn pattern<'a, 'b>(s: &'a [u8], w: &'b [u32], t: Tally, k: usize) -> &'a [u8
     ensures { λ r. ⌜ now r ≡ getD (patternsOf (listingOf (now (s .entry)))) k [] ⌝ }
 {
     tables::span_at(s, w[tables::PATTERNS + k])
+}
+
+// Whether that is the text.
+pub fn is_pattern(s: &[u8], w: &[u32], t: Tally, k: usize, text: &[u8]) -> bool
+    requires { ⌜ Holds (now s) t (now w) × (k < length (patternsOf (listingOf (now s)))) ⌝ }
+    ensures { λ r. ⌜ r ≡ same (getD (patternsOf (listingOf (now (s .entry)))) k []) (now (text .entry)) ⌝ }
+{
+    tables::spans(s, w[tables::PATTERNS + k], text)
 }
 
 // The methods that the collection of `pattern` line k covers, as the digits of a number.

@@ -1,4 +1,4 @@
-// The line at a place of the listing, and the reader that stands there.
+// The line at a place of the listing, cut.
 ghost use mathlib.Core.Path.{_≡_};
 ghost use lib.ListN.{getD};
 ghost use lib.Dec.{eqb};
@@ -44,28 +44,4 @@ pub fn cut_at(table: &[u8; 256], text: &[u8], at: usize) -> Cut
         clean: field.clean,
         whole: whole,
     }
-}
-
-// The reader: the lent text, and its place in it. The borrow checker covers no function over it, so each is thin and leaves the work to `cut_at`.
-pub struct Reader<'a> {
-    pub text: &'a [u8],
-    pub at: usize,
-}
-
-impl<'a> Reader<'a> {
-    // The line where it stands.
-    pub fn line(self, table: &[u8; 256]) -> Cut
-        requires { ⌜ Standing (now table) (now (self .text)) (self .at) ⌝ }
-        ensures { λ r. ⌜ r ≡ cutOf (now (self .entry .text)) (self .entry .at) ⌝ }
-    {
-        cut_at(table, self.text, self.at)
-    }
-}
-
-// The same by a reader that is made for it: what every other function calls.
-pub fn line_at(table: &[u8; 256], text: &[u8], at: usize) -> Cut
-    requires { ⌜ Standing (now table) (now text) at ⌝ }
-    ensures { λ r. ⌜ r ≡ cutOf (now (text .entry)) at ⌝ }
-{
-    Reader { text, at }.line(table)
 }

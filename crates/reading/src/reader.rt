@@ -1,4 +1,4 @@
-// The reader: line by line over a lent listing, with the lent work table as its memory.
+// The reader: line by line over a lent listing, with the lent work table as its memory. `load` makes it, and all of the listing is read through it.
 ghost use mathlib.Core.Path.{_≡_};
 ghost use Prim.Native.Nat.{_+_, _≤_, _<_};
 ghost use lib.ListN.{length, drop};
@@ -12,6 +12,7 @@ ghost use Rattle.worktable.specs.Work.{zeroed};
 ghost use Rattle.listings.specs.Limits.{mostBytes};
 ghost use Rattle.reading.specs.Room.{listingRoom};
 ghost use Rattle.reading.specs.Tables.{Fits, Field, LineEnd, LineOutcome, FillOutcome, lineWith, lineFrom, fillFrom, tablesAt, startTables, isEndKind, closedAt};
+ghost use Rattle.reading.specs.Readers.{Ready, behindFirst, stayed, fillingFrom, standingAt};
 ghost use Rattle.reading.specs.Holds.{LoadOutcome, readingShown};
 use crate::lines;
 use crate::steps;
@@ -112,7 +113,7 @@ pub fn line(table: &[u8; 256], s: &[u8], w: &mut [u32], t: Tally, c: Cursor) -> 
     requires { ⌜ (now table ≡ classTable) × (Fits (now s) t (now w) × ((c .at < length (now s)) × (c .line ≤ 100000))) ⌝ }
     ensures { λ r. ⌜ LineOutcome (now (s .entry)) c (lineFrom (tablesAt (now (s .entry)) t (now (w .entry))) (linesOf (drop (c .at) (now (s .entry))))) r (now (w .exit)) ⌝ }
 {
-    let cut = lines::line_at(table, s, c.at);
+    let cut = lines::cut_at(table, s, c.at);
     if !cut.whole {
         return Lined::Bad(Fault::BadForm);
     }
@@ -120,13 +121,13 @@ pub fn line(table: &[u8; 256], s: &[u8], w: &mut [u32], t: Tally, c: Cursor) -> 
     line_named(table, s, w, t, c, named, cut.from, cut.end, cut.clean)
 }
 
-// The lines behind the first.
-pub fn fill(table: &[u8; 256], s: &[u8], w: &mut [u32]) -> Loaded
-    requires { ⌜ (now table ≡ classTable) × ((length (now s) ≤ mostBytes) × ((14 ≤ length (now s)) × (listingRoom ≤ length (now w)))) ⌝ }
-    ensures { λ r. ⌜ FillOutcome (now (s .entry)) (fillFrom startTables 2 (linesOf (drop 14 (now (s .entry))))) r (now (w .exit)) ⌝ }
+// The lines from a place on, of which the first is line 2.
+pub fn fill_lines(table: &[u8; 256], s: &[u8], w: &mut [u32], at: usize) -> Loaded
+    requires { ⌜ (now table ≡ classTable) × ((length (now s) ≤ mostBytes) × ((1 ≤ at) × Ready (now s) at (now w))) ⌝ }
+    ensures { λ r. ⌜ FillOutcome (now (s .entry)) (fillFrom startTables 2 (linesOf (drop at (now (s .entry))))) r (now (w .exit)) ⌝ }
 {
     let mut t = Tally::start();
-    let mut c = Cursor { at: 14, line: 2 };
+    let mut c = Cursor { at: at, line: 2 };
     while c.at < s.len() {
         let lined = line(table, s, w, t, c);
         match lined {
@@ -160,19 +161,76 @@ pub fn has_first_line(s: &[u8]) -> bool
     texts::starts_with(b"constraints\t1\n", s)
 }
 
+// The place behind the first line, if that stands at `at` and the text is not too long, and else `at`.
+pub fn behind_first_line(text: &[u8], at: usize) -> usize
+    requires { ⌜ at ≤ length (now text) ⌝ }
+    ensures { λ r. ⌜ r ≡ behindFirst (now (text .entry)) at ⌝ }
+{
+    if most(Counted::Bytes) < text.len() {
+        return at;
+    }
+    if has_first_line(&text[at..]) {
+        return at + 14;
+    }
+    at
+}
+
+// Why a reader has not gone on.
+pub fn refused(text: &[u8]) -> Loaded
+    ensures { λ r. ⌜ r ≡ stayed (now (text .entry)) ⌝ }
+{
+    if most(Counted::Bytes) < text.len() {
+        return Loaded::Not(Fault::LongListing, 0);
+    }
+    Loaded::Not(Fault::BadFirstLine, 1)
+}
+
+// A whole listing, from where its reader stands behind the first line: one that stands at 0 has not gone past it.
+pub fn fill_from(text: &[u8], at: usize, w: &mut [u32]) -> Loaded
+    requires { ⌜ Ready (now text) at (now w) ⌝ }
+    ensures { λ r. ⌜ FillOutcome (now (text .entry)) (fillingFrom (now (text .entry)) at) r (now (w .exit)) ⌝ }
+{
+    if at == 0 {
+        return refused(text);
+    }
+    let table = bytes::classes();
+    fill_lines(&table, text, w, at)
+}
+
+// The reader: the lent text, and its place in it. The borrow checker covers no function over it, so each is thin and leaves the work to one above.
+pub struct Reader<'a> {
+    pub text: &'a [u8],
+    pub at: usize,
+}
+
+impl<'a> Reader<'a> {
+    // Past the first line, if that stands where it is.
+    pub fn past_first(self) -> Reader<'a>
+        requires { ⌜ self .at ≤ length (now (self .text)) ⌝ }
+        ensures { λ r. ⌜ r ≡ standingAt (self .entry) (behindFirst (now (self .entry .text)) (self .entry .at)) ⌝ }
+    {
+        let at = behind_first_line(self.text, self.at);
+        Reader {
+            text: self.text,
+            at,
+        }
+    }
+
+    // All lines from where it is, into the table.
+    pub fn fill(self, w: &mut [u32]) -> Loaded
+        requires { ⌜ Ready (now (self .text)) (self .at) (now w) ⌝ }
+        ensures { λ r. ⌜ FillOutcome (now (self .entry .text)) (fillingFrom (now (self .entry .text)) (self .entry .at)) r (now (w .exit)) ⌝ }
+    {
+        fill_from(self.text, self.at, w)
+    }
+}
+
 // The whole listing: where it is accepted, w holds it.
 pub fn load(s: &[u8], w: &mut [u32]) -> Loaded
     requires { ⌜ listingRoom ≤ length (now w) ⌝ }
     ensures { λ r. ⌜ LoadOutcome (now (s .entry)) r (now (w .exit)) ⌝ }
 {
-    if most(Counted::Bytes) < s.len() {
-        return Loaded::Not(Fault::LongListing, 0);
-    }
-    if !has_first_line(s) {
-        return Loaded::Not(Fault::BadFirstLine, 1);
-    }
-    let table = bytes::classes();
-    fill(&table, s, w)
+    Reader { text: s, at: 0 }.past_first().fill(w)
 }
 
 // ---- the work table around a call

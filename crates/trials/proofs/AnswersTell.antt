@@ -66,7 +66,7 @@ no-wider-length = line-two (bytes "verdict") (bytes "no wider")
 pub wider-length : (r : Request) → 28 ≤ length (answerOf (some r))
 wider-length r = rw (answer-length r) (omega arith)
 
--- the answer has 646 bytes at most
+-- the answer fits every buffer that is not refused
 pub answer-fits : (new old : Listing) → Proper new → Proper old → AnswerFits new old
 answer-fits new old N O = go (verdict new old) refl
   where

@@ -108,12 +108,12 @@ one-line (x ∷ xs) h =
     rw (ne-eqb x newline (text-no-newline x (and-left (isText x) (all isText xs) h)), one-line xs (and-right (isText x) (all isText xs) h))
 
 -- so one role is a caller's, logged in
-one-called : (n : Text) → isRoleName n ≡ true → callerOf 1 (n ++ newline ∷ []) ≡ some (one n)
+pub one-called : (n : Text) → isRoleName n ≡ true → callerOf 1 (n ++ newline ∷ []) ≡ some (one n)
 unfolding callerOf allHeld
 one-called n h = rw (one-line n (made-bytes isText 1 64 n (role-made n h)), h)
 
 -- one who is not logged in is a caller, too
-nobody-called : callerOf 0 [] ≡ some nobody
+pub nobody-called : callerOf 0 [] ≡ some nobody
 unfolding callerOf
 nobody-called = refl
 

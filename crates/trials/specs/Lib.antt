@@ -6,6 +6,7 @@
 --   Demands   what is proved of it, as types
 -- The last is for the proofs alone, and no public statement rests on a reader's believing it:
 --   Loops     the verdict as a program finds it
+-- docs/READING.md explains the notation.
 pub mod Fillers
 pub mod Trials
 pub mod Verdicts

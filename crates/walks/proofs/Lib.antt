@@ -1,20 +1,16 @@
--- The laws of the walk through the trials. Without code:
---   Stems           the places of trial paths with one stem
---   Extending       the extensions behind a stem, tried in order
+-- The laws of the walk over the numbers. Without code:
+--   Firsts      the first answer of places gone through one by one, repeats passed over
+--   Verdict     the walk finds the verdict
+--   Hits        a hit's numbers are within bounds, and it is a trial
+--   Withins     sets within sets: `&`, `|`, and what one set has and another has not
+--   Together    no extension behind a stem shows where all of them together do not
 -- The code, module by module:
---   Places          paths: a best match's place, and a path put into a buffer
---   Plains          the trial path of a pattern text that is no prefix
---   Numbered        pattern line j of both listings
---   Notings         the table of the extensions
---   Trying          walking: the loop over that table, and the hit's path
---   PrefixTrials    the trial paths of a prefix line
---   LineTrials      those of all lines, and so the verdict
-pub mod Stems
-pub mod Extending
-pub mod Places
-pub mod Plains
-pub mod Numbered
-pub mod Notings
-pub mod Trying
-pub mod PrefixTrials
-pub mod LineTrials
+--   Gatherings  gathering: the rows of all extensions together
+--   Walkings    stems and walking: the extensions behind a stem, and stem after stem
+pub mod Firsts
+pub mod Verdict
+pub mod Hits
+pub mod Withins
+pub mod Together
+pub mod Gatherings
+pub mod Walkings

@@ -1,3 +1,6 @@
--- For the proofs alone: no public statement rests on a reader's believing this.
---   Walks     the trials as the program walks through them
+-- For the proofs alone: no public statement rests on a reader's believing these.
+--   Walks     the walk over the numbers, and the request that a hit stands for
+--   Gathers   the rows of all extensions together
+-- docs/READING.md explains the notation.
 pub mod Walks
+pub mod Gathers

@@ -1,3 +1,4 @@
-// The walk through the trials of two held listings, in 01's order, to the first that widens.
-pub mod paths; // the trial paths, and the extensions
-pub mod walking; // the trials in order
+// The walk over the numbers of two listings, to the first request that new grants and old does not. No text is looked at here.
+pub mod stems; // the numbers of a stem
+pub mod gathering; // the rows of all extensions together
+pub mod walking; // stem after stem, and behind a prefix all extensions at once

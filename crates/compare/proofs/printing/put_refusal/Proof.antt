@@ -1,6 +1,6 @@
 -- `printing::put_refusal` meets its contract: the pieces are put one behind the other.
 use borrow.Author.Needs.{needs}
-use Rattle.compare.proofs.Pieces.{line-size, line-bytes}
+use Rattle.compare.proofs.Pieces.{number-near, line-size, line-bytes}
 use Rattle.compare.proofs.printing.put_refusal.Statement.{statement}
 use Rattle.compare.proofs.printing.put_refusal.Tie as tie
 
@@ -13,17 +13,8 @@ put-requires c κs = search needs
 put-field-requires : tie.Need-put-field-requires
 put-field-requires c κs = search needs
 
-put-field-requires-2 : tie.Need-put-field-requires-2
-put-field-requires-2 c κs = search needs
-
-put-field-requires-3 : tie.Need-put-field-requires-3
-put-field-requires-3 c κs = search needs
-
-slice-aggregate-put-2 : tie.Need-slice-aggregate-put-2
-slice-aggregate-put-2 c = search needs
-
-put-requires-2 : tie.Need-put-requires-2
-put-requires-2 c κs = search needs
+put-where-requires : tie.Need-put-where-requires
+put-where-requires c κs = search (needs, number-near)
 
 same-length : tie.Need-same-length
 same-length c = search needs
@@ -38,9 +29,6 @@ put-refusal-spec =
     slice-aggregate-put
     put-requires
     put-field-requires
-    put-field-requires-2
-    put-field-requires-3
-    slice-aggregate-put-2
-    put-requires-2
+    put-where-requires
     same-length
     returns)

@@ -1,14 +1,17 @@
--- `comparer::compare_held` meets its contract: the marks leave both tables as they are.
+-- `comparer::compare_held` meets its contract: the marks and the numbers leave both listings as they are.
 use borrow.Author.Needs.{needs}
-use Rattle.comparing.proofs.Compares.{first-kept, second-kept}
+use Rattle.comparing.proofs.Compares.{marked-both, both-prepared, rest-stays}
 use Rattle.comparing.proofs.comparer.compare_held.Statement.{statement}
 use Rattle.comparing.proofs.comparer.compare_held.Tie as tie
 
 filler-number-requires : tie.Need-filler-number-requires
 filler-number-requires c κs = search needs
 
-compare-tables-requires : tie.Need-compare-tables-requires
-compare-tables-requires c κs = ((search needs, (search (needs, first-kept), search (needs, second-kept))), (search needs, search needs))
+number-requires : tie.Need-number-requires
+number-requires c κs = (search needs, search (needs, marked-both))
+
+compare-numbers-requires : tie.Need-compare-numbers-requires
+compare-numbers-requires c κs = ((search (needs, both-prepared), search needs), search needs)
 
 same-length : tie.Need-same-length
 same-length c = search needs
@@ -17,9 +20,15 @@ same-length-2 : tie.Need-same-length-2
 same-length-2 c = search needs
 
 returns : tie.Need-returns
-returns c = search needs
+returns c = (search needs, (search needs, (search (needs, rest-stays), search needs)))
 
 pub compare-held-spec : {M : Type 1} → statement M
 compare-held-spec =
     tie.close
-    (tie.spec filler-number-requires compare-tables-requires same-length same-length-2 returns)
+    (tie.spec
+    filler-number-requires
+    number-requires
+    compare-numbers-requires
+    same-length
+    same-length-2
+    returns)

@@ -1,7 +1,6 @@
 -- `comparer::compare_loaded` meets its contract: by what reading answered, old first.
 use borrow.Author.Needs.{needs}
-use Rattle.deciding.proofs.Calls.{loaded-holds}
-use Rattle.comparing.proofs.Compares.{old-refused, old-keeps, new-refused, new-keeps, both-handed, both-written}
+use Rattle.comparing.proofs.Compares.{long-table, both-held, old-refused, old-keeps, new-refused, new-keeps, both-handed, both-written, rest-of}
 use Rattle.comparing.proofs.comparer.compare_loaded.Statement.{statement}
 use Rattle.comparing.proofs.comparer.compare_loaded.Tie as tie
 
@@ -30,7 +29,7 @@ enum-known-ln-2 : tie.Need-enum-known-ln-2
 enum-known-ln-2 c = search needs
 
 compare-held-requires : tie.Need-compare-held-requires
-compare-held-requires c κs = search (needs, loaded-holds)
+compare-held-requires c κs = ((search (needs, long-table), search (needs, both-held)), search needs)
 
 returns : tie.Need-returns
 returns c = (search (needs, old-refused), (search (needs, old-keeps), search needs))
@@ -45,7 +44,9 @@ same-length-2 : tie.Need-same-length-2
 same-length-2 c = search needs
 
 returns-3 : tie.Need-returns-3
-returns-3 c = (search (needs, both-handed, c .before .before .before .before .before .before .before .before .before .before .before .before .before .before .before .before .before .pre), (search (needs, both-written, c .before .before .before .before .before .before .before .before .before .before .before .before .before .before .before .before .before .pre), search needs))
+returns-3 c =
+    let pre = c .before .before .before .before .before .before .before .before .before .before .before .before .before .before .before .before .before .pre in
+    (search (needs, both-handed, pre), (search (needs, both-written, pre), (search (needs, rest-of, pre), search needs)))
 
 pub compare-loaded-spec : {M : Type 1} → statement M
 compare-loaded-spec =

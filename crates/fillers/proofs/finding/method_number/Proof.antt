@@ -12,10 +12,10 @@ use Rattle.fillers.proofs.finding.method_number.Statement.{statement}
 use Rattle.fillers.proofs.finding.method_number.Tie as tie
 
 abbrev Inv-loop : tie.InvT-loop
-Inv-loop new wn tn old wo to n₀ n = (n ≤ 99) × ((i : ℕ) → i < n → isUnnamed (listingOf new .methods ++ listingOf old .methods) i ≡ false)
+Inv-loop old wo to new wn tn n₀ n = (n ≤ 99) × ((i : ℕ) → i < n → isUnnamed (listingOf new .methods ++ listingOf old .methods) i ≡ false)
 
 abbrev μ-loop : tie.MeasureT-loop
-μ-loop new wn tn old wo to n₀ n = 99 - n
+μ-loop old wo to new wn tn n₀ n = 99 - n
 
 loop-holds : tie.Need-loop-holds Inv-loop μ-loop
 loop-holds c = (search needs, λ i h. absurd (search needs))

@@ -5,8 +5,8 @@ use Rattle.reading.proofs.Linecuts.{cut-field, cut-behind, cut-clean, c
 use Rattle.reading.proofs.reader.line.Statement.{statement}
 use Rattle.reading.proofs.reader.line.Tie as tie
 
-line-at-requires : tie.Need-line-at-requires
-line-at-requires c κs = search needs
+cut-at-requires : tie.Need-cut-at-requires
+cut-at-requires c κs = search needs
 
 returns : tie.Need-returns
 returns c = search (needs, cut-bad, not-true)
@@ -24,4 +24,4 @@ returns-2 : tie.Need-returns-2
 returns-2 c = search (needs, cut-whole, not-false)
 
 pub line-spec : {M : Type 1} → statement M
-line-spec = tie.close (tie.spec line-at-requires returns line-named-requires same-length returns-2)
+line-spec = tie.close (tie.spec cut-at-requires returns line-named-requires same-length returns-2)

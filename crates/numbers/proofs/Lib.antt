@@ -1,0 +1,17 @@
+-- The laws of texts that become numbers:
+--   Writings        what is written, and what is kept
+--   SideLines       sides: the table of a side
+--   Pairings        methods: the trial methods by their numbers
+--   PairsPut        the same in the work table
+--   Searchings      searching: the strongest pattern at a stem
+--   Stemmings       stems: the stems of both listings
+--   StemsPut        the same in the work table
+--   Numberings      numbering: the parts of the scratch put together
+pub mod Writings
+pub mod SideLines
+pub mod Pairings
+pub mod PairsPut
+pub mod Searchings
+pub mod Stemmings
+pub mod StemsPut
+pub mod Numberings

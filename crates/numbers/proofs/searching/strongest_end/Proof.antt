@@ -1,0 +1,61 @@
+-- `searching::strongest_end` meets its contract: the patterns are gone through once.
+use borrow.Author.Needs.{needs}
+use mathlib.Core.Path.{_≡_}
+use Prim.Native.Nat.{_-_}
+use lib.ListN.{take}
+use Rattle.listings.specs.Listings.{listingOf, patternsOf}
+use Rattle.listings.specs.Patterns.{extension}
+use Rattle.grants.specs.Scratch.{stemStrength, leadingBy}
+use Rattle.deciding.proofs.Matchings.{lead-few, lead-short}
+use Rattle.numbers.proofs.Searchings.{by-none, by-step, by-all, by-count}
+use Rattle.numbers.proofs.searching.strongest_end.Statement.{statement}
+use Rattle.numbers.proofs.searching.strongest_end.Tie as tie
+
+abbrev Inv-loop : tie.InvT-loop
+Inv-loop s w t e n x₀ k₀ x k = (x ≡ leadingBy (stemStrength (extension e)) (take k (patternsOf (listingOf s)))) × (x .seen ≡ k)
+
+abbrev μ-loop : tie.MeasureT-loop
+μ-loop s w t e n x₀ k₀ x k = n - k
+
+pattern-count-requires : tie.Need-pattern-count-requires Inv-loop μ-loop
+pattern-count-requires c κs = search needs
+
+loop-holds : tie.Need-loop-holds Inv-loop μ-loop
+loop-holds c = (search (needs, by-none), search needs)
+
+pattern-requires : tie.Need-pattern-requires Inv-loop μ-loop
+pattern-requires c κs = search needs
+
+end-strength-requires : tie.Need-end-strength-requires Inv-loop μ-loop
+end-strength-requires c κs = (search (needs, lead-short), search needs)
+
+lead-by-requires : tie.Need-lead-by-requires Inv-loop μ-loop
+lead-by-requires c κs = search (needs, lead-few)
+
+add-k : tie.Need-add-k Inv-loop μ-loop
+add-k c = search needs
+
+loop-less : tie.Need-loop-less Inv-loop μ-loop
+loop-less c = search needs
+
+loop-again : tie.Need-loop-again Inv-loop μ-loop
+loop-again c = (search (needs, by-step), search (needs, by-count))
+
+returns : tie.Need-returns Inv-loop μ-loop
+returns c = search (needs, by-all)
+
+pub strongest-end-spec : {M : Type 1} → statement M
+strongest-end-spec =
+    tie.close
+    (tie.spec
+    Inv-loop
+    μ-loop
+    pattern-count-requires
+    loop-holds
+    pattern-requires
+    end-strength-requires
+    lead-by-requires
+    add-k
+    loop-less
+    loop-again
+    returns)

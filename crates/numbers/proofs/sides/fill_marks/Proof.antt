@@ -1,0 +1,105 @@
+-- `sides::fill_marks` meets its contract: one line more at each turn.
+use borrow.Author.Needs.{needs}
+use Prim.Native.Nat.{_-_}
+use Rattle.listings.specs.Listings.{listingOf}
+use Rattle.numbers.specs.Writes.{markAt}
+use Rattle.numbers.proofs.Writings.{Writing, write-start, write-more, write-all}
+use Rattle.numbers.proofs.sides.fill_marks.Statement.{statement}
+use Rattle.numbers.proofs.sides.fill_marks.Tie as tie
+
+abbrev Inv-loop : tie.InvT-loop
+Inv-loop s w₀ t from at n k₀ w k = Writing s t from at n k (markAt (listingOf s)) w₀ w
+
+abbrev μ-loop : tie.MeasureT-loop
+μ-loop s w₀ t from at n k₀ w k = n - k
+
+add-pattern-count : tie.Need-add-pattern-count Inv-loop μ-loop
+add-pattern-count c = search needs
+
+mul-pattern-count : tie.Need-mul-pattern-count Inv-loop μ-loop
+mul-pattern-count c = search needs
+
+sub-pattern-count : tie.Need-sub-pattern-count Inv-loop μ-loop
+sub-pattern-count c = search needs
+
+part-pattern-count-start : tie.Need-part-pattern-count-start Inv-loop μ-loop
+part-pattern-count-start c = search needs
+
+part-pattern-count-end : tie.Need-part-pattern-count-end Inv-loop μ-loop
+part-pattern-count-end c = search needs
+
+pattern-count-requires : tie.Need-pattern-count-requires Inv-loop μ-loop
+pattern-count-requires c κs = search needs
+
+loop-holds : tie.Need-loop-holds Inv-loop μ-loop
+loop-holds c = search (needs, write-start)
+
+add-mark-at : tie.Need-add-mark-at Inv-loop μ-loop
+add-mark-at c = search needs
+
+mul-mark-at : tie.Need-mul-mark-at Inv-loop μ-loop
+mul-mark-at c = search needs
+
+sub-mark-at : tie.Need-sub-mark-at Inv-loop μ-loop
+sub-mark-at c = search needs
+
+part-mark-at-start : tie.Need-part-mark-at-start Inv-loop μ-loop
+part-mark-at-start c = search needs
+
+part-mark-at-end : tie.Need-part-mark-at-end Inv-loop μ-loop
+part-mark-at-end c = search needs
+
+mark-at-requires : tie.Need-mark-at-requires Inv-loop μ-loop
+mark-at-requires c κs = search needs
+
+add-w : tie.Need-add-w Inv-loop μ-loop
+add-w c = search needs
+
+mul-w : tie.Need-mul-w Inv-loop μ-loop
+mul-w c = search needs
+
+slice-write-w : tie.Need-slice-write-w Inv-loop μ-loop
+slice-write-w c = search needs
+
+add-k : tie.Need-add-k Inv-loop μ-loop
+add-k c = search needs
+
+loop-less : tie.Need-loop-less Inv-loop μ-loop
+loop-less c = search needs
+
+loop-again : tie.Need-loop-again Inv-loop μ-loop
+loop-again c = search (needs, write-more)
+
+same-length : tie.Need-same-length Inv-loop μ-loop
+same-length c = search needs
+
+returns : tie.Need-returns Inv-loop μ-loop
+returns c = search (needs, write-all)
+
+pub fill-marks-spec : {M : Type 1} → statement M
+fill-marks-spec =
+    tie.close
+    (tie.spec
+    Inv-loop
+    μ-loop
+    add-pattern-count
+    mul-pattern-count
+    sub-pattern-count
+    part-pattern-count-start
+    part-pattern-count-end
+    pattern-count-requires
+    loop-holds
+    add-mark-at
+    mul-mark-at
+    sub-mark-at
+    part-mark-at-start
+    part-mark-at-end
+    mark-at-requires
+    add-w
+    mul-w
+    slice-write-w
+    add-k
+    loop-less
+    loop-again
+    same-length
+    returns)

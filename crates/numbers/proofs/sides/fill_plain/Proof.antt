@@ -1,0 +1,38 @@
+-- `sides::fill_plain` meets its contract: three parts are filled one after the other.
+use borrow.Author.Needs.{needs}
+use Rattle.numbers.proofs.SideLines.{side-first, side-second, side-fourth, side-plain}
+use Rattle.numbers.proofs.sides.fill_plain.Statement.{statement}
+use Rattle.numbers.proofs.sides.fill_plain.Tie as tie
+
+fill-covers-requires : tie.Need-fill-covers-requires
+fill-covers-requires c κs = search (needs, side-first)
+
+add-fill-marks : tie.Need-add-fill-marks
+add-fill-marks c = search needs
+
+fill-marks-requires : tie.Need-fill-marks-requires
+fill-marks-requires c κs = search (needs, side-second)
+
+add-fill-gaps : tie.Need-add-fill-gaps
+add-fill-gaps c = search needs
+
+fill-gaps-requires : tie.Need-fill-gaps-requires
+fill-gaps-requires c κs = search (needs, side-fourth)
+
+same-length : tie.Need-same-length
+same-length c = search needs
+
+returns : tie.Need-returns
+returns c = search (needs, side-plain)
+
+pub fill-plain-spec : {M : Type 1} → statement M
+fill-plain-spec =
+    tie.close
+    (tie.spec
+    fill-covers-requires
+    add-fill-marks
+    fill-marks-requires
+    add-fill-gaps
+    fill-gaps-requires
+    same-length
+    returns)

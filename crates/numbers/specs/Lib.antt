@@ -1,0 +1,8 @@
+-- For the proofs alone: no public statement rests on a reader's believing these.
+--   Writes    what a call leaves in the lent work table, and what it keeps
+--   Stemming  the stems while they are written
+--   Numbering the scratch while it is filled
+-- docs/READING.md explains the notation.
+pub mod Writes
+pub mod Stemming
+pub mod Numbering

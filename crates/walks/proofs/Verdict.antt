@@ -1,0 +1,287 @@
+-- The walk over the numbers finds the verdict: each stem shows what its trial paths show, and a stem that is passed over shows nothing new.
+use mathlib.Core.Path.{_≡_, refl, sym, ap, ap₂, _∙_}
+use mathlib.Core.Bool.{Bool, true, false, not, cond, _&&_}
+use mathlib.Core.List.{List, [], _∷_, append-nil, append-assoc, Memᴰ·append-left, Memᴰ·append-right, List·Memᴰ·append-cases}
+use mathlib.Core.Logic.{⊎-elim}
+use mathlib.Core.Option.{Option, none, some}
+use Prim.Native.Nat.{ℕ, zero, suc, _+_, _<_}
+use native.Mathlib.Numerals.{add-one}
+use native.Mathlib.Omega.{arith}
+use lib.ListN.{length, take, getD, length-append}
+use lib.Dec.{eqb}
+use borrow.Author.Tests.{lt-ltb, le-ltb}
+use Rattle.text.specs.Texts.{Text, bytes, slash, dot, member, endsWith}
+use Rattle.text.specs.Bytes.{isText}
+use Rattle.listings.specs.Names.{madeOf, isPattern}
+use Rattle.listings.specs.Patterns.{PatternKind, exact, prefix, extension, default, unpermitted, kindOf, isPermitted}
+use Rattle.listings.specs.Listings.{Listing, patternsOf}
+use Rattle.text.proofs.Truths.{never, and-right}
+use Rattle.listings.specs.Propers.{Proper}
+use Rattle.decisions.specs.Matching.{isUnder}
+use Rattle.decisions.specs.Requests.{Request, request}
+use Rattle.deciding.specs.Strengths.{leading}
+use Rattle.deciding.proofs.Strengths.{at-listed}
+use Rattle.trials.specs.Fillers.{fillerOf, Filler}
+use Rattle.trials.specs.Trials.{below, dotted, extensionIn, extensions, pathsOfKind, pathsFor, trialPaths, trialMethods}
+use Rattle.trials.specs.Loops.{orElse, firstSome, shown}
+use Rattle.trials.specs.Verdicts.{verdict}
+use Rattle.trials.proofs.Bounds.{filler-of-fills}
+use Rattle.trials.proofs.Loops.{verdict-shown}
+use Rattle.trials.proofs.Turns.{some-none, some-one, paths-by-lines, paths-below, extensions-by-lines}
+use Rattle.grants.specs.Sides.{callerAt, placeOf, Ready}
+use Rattle.grants.specs.Catches.{shownOn, caughtIn, caughtOn}
+use Rattle.grants.specs.Scratch.{oldSide, newSide, pairsIn, inOld, inNew, sortAt, placed, lineIn, staying, sortOf, sorted, stemPlace, stemPath, textsOf, StemIn, Numbered}
+use Rattle.grants.specs.declared.scratch.Counts.{Counts}
+use Rattle.grants.specs.declared.judging.Caught.{Caught}
+use Rattle.grants.specs.declared.judging.Caught.the-variants as C
+use Rattle.grants.proofs.Grants.{caught-at}
+use Rattle.grants.proofs.Stems.{line-placed, prefix-rooted, extension-plain, stem-placed, last-placed, behind-placed}
+use Rattle.walks.specs.Walks.{caughtAt, caughtBehind, behindFrom, behind, stemHit, walkFrom, walked, kindAt, hitPath, hitShown}
+use Rattle.walks.specs.declared.walking.Hit.{Hit}
+use Rattle.walks.specs.declared.walking.Hit.the-variants as H
+use Rattle.walks.proofs.Firsts.{firstFrom, from-none, from-more, from-alike, from-last, anew, anew-again, anew-here, anew-first}
+
+-- a pattern is of a permitted kind
+pattern-permitted : (t : Text) → isPattern t ≡ true → isPermitted (kindOf t) ≡ true
+unfolding isPattern
+pattern-permitted t h =
+    and-right (not (endsWith (bytes " ") t)) (isPermitted (kindOf t)) (and-right (madeOf isText 0 255 t) (not (endsWith (bytes " ") t) && isPermitted (kindOf t)) h)
+
+-- ---- the walk as the first answer of places, whatever the numbers are
+module _ (old new : Listing) (x : List ℕ) (c : Counts) where
+  -- who is caught on a path, as a hit there
+  abbrev hitAt : ℕ → ℕ → Caught → Hit
+  hitAt j e y = elim y [ C.Nothing ↦ H.Nothing | C.At m d ↦ H.At j e m d ]
+
+  hit-shown : (j e : ℕ) (path : Text) → hitPath (fillerOf new old) (textsOf old new) j e ≡ path → (y : Caught) → hitShown old new (hitAt j e y) ≡ caughtOn new old path y
+  hit-shown j e path q C.Nothing = refl
+  hit-shown j e path q (C.At m d) = ap (λ (v : Text). some (request v (getD (trialMethods new old) m []) (callerAt (new .roles) d))) q
+
+  -- the extension of stem i behind stem j
+  abbrev behindHit : ℕ → ℕ → Hit
+  behindHit j i = cond (eqb (sortAt x i) 3) (hitAt j (i + 1) (caughtBehind x c j i)) H.Nothing
+
+  behind-from : (j k i : ℕ) → hitShown old new (behindFrom x c j k i) ≡ firstFrom (λ (n : ℕ). hitShown old new (behindHit j n)) k i
+  unfolding behindFrom
+  behind-from j zero i = sym (from-none (λ (n : ℕ). hitShown old new (behindHit j n)) i)
+  behind-from j (suc k) i = go (eqb (sortAt x i) 3) (caughtBehind x c j i) (behind-from j k (i + 1)) ∙ sym (from-more (λ (n : ℕ). hitShown old new (behindHit j n)) k i)
+    where
+      go : (b : Bool) (y : Caught) → hitShown old new (behindFrom x c j k (i + 1)) ≡ firstFrom (λ (n : ℕ). hitShown old new (behindHit j n)) k (i + 1)
+          → hitShown old new (cond b (elim y [ C.Nothing ↦ behindFrom x c j k (i + 1) | C.At m d ↦ H.At j (i + 1) m d ]) (behindFrom x c j k (i + 1)))
+          ≡ orElse (hitShown old new (cond b (hitAt j (i + 1) y) H.Nothing)) (firstFrom (λ (n : ℕ). hitShown old new (behindHit j n)) k (i + 1))
+      go true C.Nothing ih = ih
+      go true (C.At m d) ih = refl
+      go false y ih = ih
+
+  -- stem after stem
+  walk-from : (k j : ℕ) → hitShown old new (walkFrom x c k j) ≡ firstFrom (λ (n : ℕ). hitShown old new (stemHit x c n)) k j
+  unfolding walkFrom
+  walk-from zero j = sym (from-none (λ (n : ℕ). hitShown old new (stemHit x c n)) j)
+  walk-from (suc k) j = go (stemHit x c j) (walk-from k (j + 1)) ∙ sym (from-more (λ (n : ℕ). hitShown old new (stemHit x c n)) k j)
+    where
+      go : (h : Hit) → hitShown old new (walkFrom x c k (j + 1)) ≡ firstFrom (λ (n : ℕ). hitShown old new (stemHit x c n)) k (j + 1)
+          → hitShown old new (elim h [ H.Nothing ↦ walkFrom x c k (j + 1) | H.At i e m d ↦ H.At i e m d ])
+          ≡ orElse (hitShown old new h) (firstFrom (λ (n : ℕ). hitShown old new (stemHit x c n)) k (j + 1))
+      go H.Nothing ih = ih
+      go (H.At i e m d) ih = refl
+
+  -- a stem by its sort: nothing to try
+  sort-none : (j : ℕ) → sortAt x j ≡ 0 → hitShown old new (stemHit x c j) ≡ none
+  unfolding stemHit
+  sort-none j e = rw e
+
+  -- one path
+  sort-one : (j : ℕ) → eqb (sortAt x j) 0 ≡ false → eqb (sortAt x j) 2 ≡ false → hitShown old new (stemHit x c j) ≡ hitShown old new (hitAt j 0 (caughtAt x c (inOld x j) (inNew x j)))
+  unfolding stemHit
+  sort-one j = go (eqb (sortAt x j) 0) (eqb (sortAt x j) 2) (caughtAt x c (inOld x j) (inNew x j))
+    where
+      go : (a b : Bool) (y : Caught) → a ≡ false → b ≡ false
+          → hitShown old new (cond a H.Nothing (elim y [ C.Nothing ↦ cond b (behind x c j) H.Nothing | C.At m d ↦ H.At j 0 m d ])) ≡ hitShown old new (hitAt j 0 y)
+      go true b y e n = absurd (never true refl e)
+      go false true y e n = absurd (never true refl n)
+      go false false C.Nothing e n = refl
+      go false false (C.At m d) e n = refl
+
+  -- a path, then the extensions behind it
+  sort-two : (j : ℕ) → eqb (sortAt x j) 0 ≡ false → eqb (sortAt x j) 2 ≡ true
+      → hitShown old new (stemHit x c j) ≡ orElse (hitShown old new (hitAt j 0 (caughtAt x c (inOld x j) (inNew x j)))) (hitShown old new (behind x c j))
+  unfolding stemHit
+  sort-two j = go (eqb (sortAt x j) 0) (eqb (sortAt x j) 2) (caughtAt x c (inOld x j) (inNew x j))
+    where
+      go : (a b : Bool) (y : Caught) → a ≡ false → b ≡ true
+          → hitShown old new (cond a H.Nothing (elim y [ C.Nothing ↦ cond b (behind x c j) H.Nothing | C.At m d ↦ H.At j 0 m d ]))
+          ≡ orElse (hitShown old new (hitAt j 0 y)) (hitShown old new (behind x c j))
+      go true b y e n = absurd (never true refl e)
+      go false true C.Nothing e n = refl
+      go false true (C.At m d) e n = refl
+      go false false y e n = absurd (never false n refl)
+
+-- ---- the numbers of two listings
+module _ (old new : Listing) (O : Proper old) (N : Proper new) (x : List ℕ) (c : Counts) (Z : Numbered old new x c) where
+  abbrev ts : List Text
+  ts = textsOf old new
+
+  abbrev filler : Text
+  filler = fillerOf new old
+
+  abbrev es : List Text
+  es = extensions ts
+
+  fills : Filler filler ts
+  fills = filler-of-fills new old N O
+
+  fills-new : Filler filler (patternsOf new)
+  fills-new = record { no-slash = fills .no-slash; no-dot = fills .no-dot; fresh = λ t m. fills .fresh t (Memᴰ·append-left (patternsOf old) m) }
+
+  fills-old : Filler filler (patternsOf old)
+  fills-old = record { no-slash = fills .no-slash; no-dot = fills .no-dot; fresh = λ t m. fills .fresh t (Memᴰ·append-right (patternsOf new) m) }
+
+  ready : Ready new old (newSide x) (oldSide x) (pairsIn x) (c .methods)
+  ready = record { new-side = Z .new-side; old-side = Z .old-side; methods = Z .methods }
+
+  -- all lines
+  pub all-lines : c .old + c .new ≡ length ts
+  all-lines = omega (arith, Z .olds, Z .news, length-append (patternsOf new) (patternsOf old))
+
+  permitted : (j : ℕ) → j < length ts → isPermitted (kindOf (getD ts j [])) ≡ true
+  permitted j h =
+      pattern-permitted (getD ts j [])
+      (⊎-elim (N .good-patterns (getD ts j [])) (O .good-patterns (getD ts j [])) (List·Memᴰ·append-cases (patternsOf new) (at-listed ts j h)))
+
+  -- the kind of a stem
+  kind-here : (j : ℕ) → j < length ts → kindAt ts j ≡ kindOf (getD ts j [])
+  kind-here j h = rw (lt-ltb j (length ts) h)
+
+  kind-last : kindAt ts (length ts) ≡ default
+  kind-last = rw (le-ltb (length ts) (length ts) (omega arith))
+
+  -- its sort
+  sort-again : (j : ℕ) → j < length ts → member (getD ts j []) (take j ts) ≡ true → sortAt x j ≡ 0
+  unfolding sorted
+  sort-again j h m = Z .sorts j h ∙ rw m
+
+  sort-here : (j : ℕ) → j < length ts → member (getD ts j []) (take j ts) ≡ false → sortAt x j ≡ sortOf (kindOf (getD ts j []))
+  unfolding sorted
+  sort-here j h m = Z .sorts j h ∙ rw m
+
+  -- ---- one path
+  caught-shown : (path : Text) (u v : ℕ) → u ≡ placed (leading (patternsOf old) path) → v ≡ placed (leading (patternsOf new) path) → caughtOn new old path (caughtAt x c u v) ≡ shownOn new old path
+  unfolding caughtAt placeOf
+  caught-shown path u v p q =
+      ap (caughtOn new old path) (ap₂ (λ (n o : ℕ). caughtIn (newSide x) n (oldSide x) o (pairsIn x) (c .methods) (lineIn v) (lineIn u)) (Z .news) (Z .olds))
+      ∙ caught-at new old N O (newSide x) (oldSide x) (pairsIn x) (c .methods) ready path (lineIn v) (lineIn u)
+      (ap lineIn q ∙ line-placed (leading (patternsOf new) path)) (ap lineIn p ∙ line-placed (leading (patternsOf old) path))
+
+  -- that of stem j, of kind k
+  stem-caught : (j : ℕ) (k : PatternKind) → kindAt ts j ≡ k → StemIn old new x j k
+      → stemPlace (patternsOf old) k ≡ placed (leading (patternsOf old) (stemPath filler k)) → stemPlace (patternsOf new) k ≡ placed (leading (patternsOf new) (stemPath filler k))
+      → hitShown old new (hitAt old new x c j 0 (caughtAt x c (inOld x j) (inNew x j))) ≡ shownOn new old (stemPath filler k)
+  stem-caught j k e S p q =
+      hit-shown old new x c j 0 (stemPath filler k) (append-nil (stemPath filler (kindAt ts j)) ∙ ap (stemPath filler) e) (caughtAt x c (inOld x j) (inNew x j))
+      ∙ caught-shown (stemPath filler k) (inOld x j) (inNew x j) (S .in-old ∙ p) (S .in-new ∙ q)
+
+  -- ---- the extensions behind a prefix
+  module _ (j : ℕ) (p : Text) (kind : kindAt ts j ≡ prefix p) (root : isUnder [] p ≡ true) (S : StemIn old new x j (prefix p)) where
+    -- the request to show with the extension of a line behind it
+    abbrev extended : Text → Option Request
+    extended t = firstSome (λ (e : Text). shownOn new old (dotted p filler e)) (extensionIn (kindOf t))
+
+    behind-path : (i : ℕ) (e : Text) → kindAt ts i ≡ extension e → hitPath filler ts j (i + 1) ≡ dotted p filler e
+    behind-path i e k = rw (add-one i, k, kind) (append-assoc p (slash ∷ filler) (dot ∷ e))
+
+    behind-caught : (i : ℕ) (e : Text) → i < length ts → kindOf (getD ts i []) ≡ extension e → StemIn old new x i (extension e)
+        → hitShown old new (hitAt old new x c j (i + 1) (caughtBehind x c j i)) ≡ shownOn new old (dotted p filler e)
+    behind-caught i e h k T =
+        let plain = extension-plain (getD ts i []) e k in
+        hit-shown old new x c j (i + 1) (dotted p filler e) (behind-path i e (kind-here i h ∙ k)) (caughtBehind x c j i)
+        ∙ caught-shown (dotted p filler e) (staying (inOld x j) (inOld x i)) (staying (inNew x j) (inNew x i))
+        (ap₂ staying (S .in-old) (T .in-old) ∙ behind-placed filler (patternsOf old) fills-old p e root (plain .0) (plain .1))
+        (ap₂ staying (S .in-new) (T .in-new) ∙ behind-placed filler (patternsOf new) fills-new p e root (plain .0) (plain .1))
+
+    no-extension : (i : ℕ) → eqb (sortAt x i) 3 ≡ false → hitShown old new (behindHit old new x c j i) ≡ none
+    no-extension i e = rw e
+
+    an-extension : (i : ℕ) → sortAt x i ≡ 3 → hitShown old new (behindHit old new x c j i) ≡ hitShown old new (hitAt old new x c j (i + 1) (caughtBehind x c j i))
+    an-extension i e = rw e
+
+    one-behind : (i : ℕ) → i < length ts → hitShown old new (behindHit old new x c j i) ≡ anew extended ts i
+    one-behind i h = go (member (getD ts i []) (take i ts)) refl
+      where
+        other : (s : ℕ) → eqb s 3 ≡ false → sortAt x i ≡ s → hitShown old new (behindHit old new x c j i) ≡ none
+        other s n e = no-extension i (ap (λ (v : ℕ). eqb v 3) e ∙ n)
+
+        kinds : (k : PatternKind) → kindOf (getD ts i []) ≡ k → sortAt x i ≡ sortOf k → StemIn old new x i k
+            → hitShown old new (behindHit old new x c j i) ≡ firstSome (λ (e : Text). shownOn new old (dotted p filler e)) (extensionIn k)
+        kinds (exact q) k s T = other 1 refl s ∙ sym (some-none (λ (e : Text). shownOn new old (dotted p filler e)))
+        kinds (prefix q) k s T = other 2 refl s ∙ sym (some-none (λ (e : Text). shownOn new old (dotted p filler e)))
+        kinds (extension e) k s T = an-extension i s ∙ behind-caught i e h k T ∙ sym (some-one (λ (e : Text). shownOn new old (dotted p filler e)) e)
+        kinds default k s T = other 1 refl s ∙ sym (some-none (λ (e : Text). shownOn new old (dotted p filler e)))
+        kinds unpermitted k s T = other 1 refl s ∙ sym (some-none (λ (e : Text). shownOn new old (dotted p filler e)))
+
+        go : (b : Bool) → member (getD ts i []) (take i ts) ≡ b → hitShown old new (behindHit old new x c j i) ≡ anew extended ts i
+        go true m = other 0 refl (sort-again i h m) ∙ sym (anew-again extended ts i m)
+        go false m = kinds (kindOf (getD ts i [])) refl (sort-here i h m) (Z .stems i h m) ∙ sym (anew-here extended ts i m)
+
+    behind-shown : hitShown old new (behind x c j) ≡ firstSome (λ (e : Text). shownOn new old (dotted p filler e)) es
+    behind-shown =
+        behind-from old new x c j (c .old + c .new) 0
+        ∙ ap (λ (k : ℕ). firstFrom (λ (n : ℕ). hitShown old new (behindHit old new x c j n)) k 0) all-lines
+        ∙ from-alike (λ (n : ℕ). hitShown old new (behindHit old new x c j n)) (anew extended ts) (length ts) 0 (λ i l. one-behind i (omega arith))
+        ∙ anew-first extended ts
+        ∙ sym (extensions-by-lines (λ (e : Text). shownOn new old (dotted p filler e)) ts)
+
+  -- ---- the stems
+  -- the request to show for the trial paths of a line
+  abbrev lineShown : Text → Option Request
+  lineShown t = firstSome (shownOn new old) (pathsOfKind filler es (kindOf t))
+
+  stem-shown : (j : ℕ) → j < length ts → hitShown old new (stemHit x c j) ≡ anew lineShown ts j
+  stem-shown j h = go (member (getD ts j []) (take j ts)) refl
+    where
+      kinds : (k : PatternKind) → kindOf (getD ts j []) ≡ k → sortAt x j ≡ sortOf k → StemIn old new x j k
+          → stemPlace (patternsOf old) k ≡ placed (leading (patternsOf old) (stemPath filler k)) → stemPlace (patternsOf new) k ≡ placed (leading (patternsOf new) (stemPath filler k))
+          → isPermitted k ≡ true → hitShown old new (stemHit x c j) ≡ firstSome (shownOn new old) (pathsOfKind filler es k)
+      kinds (exact q) k s S a b l =
+          sort-one old new x c j (ap (λ (v : ℕ). eqb v 0) s) (ap (λ (v : ℕ). eqb v 2) s) ∙ stem-caught j (exact q) (kind-here j h ∙ k) S a b ∙ sym (some-one (shownOn new old) q)
+      kinds (prefix p) k s S a b l =
+          sort-two old new x c j (ap (λ (v : ℕ). eqb v 0) s) (ap (λ (v : ℕ). eqb v 2) s)
+          ∙ ap₂ orElse (stem-caught j (prefix p) (kind-here j h ∙ k) S a b) (behind-shown j p (kind-here j h ∙ k) (prefix-rooted (getD ts j []) p k) S)
+          ∙ sym (paths-below (shownOn new old) filler p es)
+      kinds (extension e) k s S a b l =
+          sort-one old new x c j (ap (λ (v : ℕ). eqb v 0) s) (ap (λ (v : ℕ). eqb v 2) s) ∙ stem-caught j (extension e) (kind-here j h ∙ k) S a b
+          ∙ sym (some-one (shownOn new old) (dotted [] filler e))
+      kinds default k s S a b l =
+          sort-one old new x c j (ap (λ (v : ℕ). eqb v 0) s) (ap (λ (v : ℕ). eqb v 2) s) ∙ stem-caught j default (kind-here j h ∙ k) S a b
+          ∙ sym (some-one (shownOn new old) (below [] filler))
+      kinds unpermitted k s S a b l = absurd (never false l refl)
+
+      go : (b : Bool) → member (getD ts j []) (take j ts) ≡ b → hitShown old new (stemHit x c j) ≡ anew lineShown ts j
+      go true m = sort-none old new x c j (sort-again j h m) ∙ sym (anew-again lineShown ts j m)
+      go false m =
+          kinds (kindOf (getD ts j [])) refl (sort-here j h m) (Z .stems j h m) (stem-placed filler (patternsOf old) fills-old (getD ts j []) (permitted j h))
+          (stem-placed filler (patternsOf new) fills-new (getD ts j []) (permitted j h)) (permitted j h)
+          ∙ sym (anew-here lineShown ts j m)
+
+  last-shown : hitShown old new (stemHit x c (length ts)) ≡ shownOn new old (below [] filler)
+  last-shown =
+      sort-one old new x c (length ts) (ap (λ (v : ℕ). eqb v 0) (Z .last-sort)) (ap (λ (v : ℕ). eqb v 2) (Z .last-sort))
+      ∙ stem-caught (length ts) default kind-last (Z .last-stem) (last-placed filler (patternsOf old) fills-old) (last-placed filler (patternsOf new) fills-new)
+
+  -- ---- all trial paths
+  verdict-by-lines : verdict new old ≡ orElse (firstSome lineShown ts) (shownOn new old (below [] filler))
+  unfolding shown shownOn trialPaths pathsFor
+  verdict-by-lines = verdict-shown new old N ∙ paths-by-lines (shownOn new old) filler es ts
+
+  -- the walk over the numbers finds the verdict
+  pub walked-verdict : hitShown old new (walked x c) ≡ verdict new old
+  unfolding walked
+  walked-verdict =
+      let all : c .old + c .new + 1 ≡ suc (length ts) = omega (arith, all-lines) in
+      let last : 0 + length ts ≡ length ts = omega arith in
+      ap (λ (k : ℕ). hitShown old new (walkFrom x c k 0)) all
+      ∙ walk-from old new x c (suc (length ts)) 0
+      ∙ from-last (λ (n : ℕ). hitShown old new (stemHit x c n)) (length ts) 0
+      ∙ ap₂ orElse
+      (from-alike (λ (n : ℕ). hitShown old new (stemHit x c n)) (anew lineShown ts) (length ts) 0 (λ i l. stem-shown i (omega arith)) ∙ anew-first lineShown ts)
+      (ap (λ (n : ℕ). hitShown old new (stemHit x c n)) last ∙ last-shown)
+      ∙ sym verdict-by-lines

@@ -1,0 +1,38 @@
+-- `stems::refresh_new` meets its contract.
+use borrow.Author.Needs.{needs}
+use Rattle.walks.proofs.Gatherings.{row-halved, line-halved}
+use Rattle.walks.proofs.stems.refresh_new.Statement.{statement}
+use Rattle.walks.proofs.stems.refresh_new.Tie as tie
+
+in-new-requires : tie.Need-in-new-requires
+in-new-requires c κs = search needs
+
+sub-refresh : tie.Need-sub-refresh
+sub-refresh c = search needs
+
+part-refresh-start : tie.Need-part-refresh-start
+part-refresh-start c = search needs
+
+part-refresh-end : tie.Need-part-refresh-end
+part-refresh-end c = search needs
+
+refresh-requires : tie.Need-refresh-requires
+refresh-requires c κs = search needs
+
+same-length : tie.Need-same-length
+same-length c = search needs
+
+returns : tie.Need-returns
+returns c = (search (needs, row-halved), search (needs, line-halved))
+
+pub refresh-new-spec : {M : Type 1} → statement M
+refresh-new-spec =
+    tie.close
+    (tie.spec
+    in-new-requires
+    sub-refresh
+    part-refresh-start
+    part-refresh-end
+    refresh-requires
+    same-length
+    returns)
