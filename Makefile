@@ -13,7 +13,7 @@ SEED ?= $(shell date +%s)
 SOAK ?= 3000000
 PREFIX ?= /usr/local
 VERSION = $(shell sed -n 's/.*BUDQUARRY_VERSION "\(.*\)"/\1/p' include/budquarry.h)
-CRATES = text worktable writing listings decisions reading deciding trials fillers grants numbers walks showing comparing library
+CRATES = text worktable writing limits names listings decisions entries reading matching callers deciding trials fillers grants numbers walks showing comparisons comparing library
 COMMAND = command/budquarry.c command/words.c
 
 all: build/budquarry build/agree build/stack build/calls

@@ -11,8 +11,8 @@ use Rattle.text.specs.Texts.{Text}
 use Rattle.listings.specs.Refusals.{Reading, accepted, refusal, numberOf, readingOf}
 use Rattle.listings.specs.declared.answers.Fault.{Fault}
 use Rattle.listings.specs.declared.answers.Fault.the-variants.{LongListing, BadFirstLine, BadForm, WrongPlace, BadName, BadPattern, RoleTwice, PastMost, NoEnd}
-use Rattle.comparing.specs.declared.answers.Comparison.{Comparison}
-use Rattle.comparing.specs.Outcomes.{Compared, refusedFor, answered, compared, comparedNew, comparedOld, comparisonFor, answerFor, comparisonOf, answerAfter, CompareOutcome}
+use Rattle.comparisons.specs.declared.answers.Comparison.{Comparison}
+use Rattle.comparisons.specs.Outcomes.{Compared, refusedFor, answered, compared, comparedNew, comparedOld, comparisonFor, answerFor, comparisonOf, answerAfter, CompareOutcome}
 use Rattle.compare.specs.Printed.{refusalLine, written, printedFor, printedOf}
 
 -- a text that is written counts as far as it goes
@@ -38,18 +38,18 @@ some-number NoEnd e = omega arith
 abbrev Answered : Compared → Text → Type 0
 Answered d answer = (comparisonFor d .length ≡ length (printedFor d)) × (answerFor d answer ≡ written (printedFor d) answer)
 
-zero-new : (old new answer : Text) (r : Reading) → comparisonFor (comparedNew old new r) .number ≡ 0 → Answered (comparedNew old new r) answer
+zero-new : (old new answer : Text) (r : Reading) → comparisonFor (comparedNew old new r) .report .number ≡ 0 → Answered (comparedNew old new r) answer
 unfolding printedFor
 zero-new old new answer accepted e = (refl, refl)
 zero-new old new answer (refusal f n) e = absurd (some-number f e)
 
-zero-old : (old new answer : Text) (r : Reading) → comparisonFor (comparedOld old new r) .number ≡ 0 → Answered (comparedOld old new r) answer
+zero-old : (old new answer : Text) (r : Reading) → comparisonFor (comparedOld old new r) .report .number ≡ 0 → Answered (comparedOld old new r) answer
 zero-old old new answer accepted e = zero-new old new answer (readingOf new) e
 zero-old old new answer (refusal f n) e = absurd (some-number f e)
 
 -- beside another number the buffer is as before, and the line is that of what is handed back
-other : (d : Compared) (answer : Text) → (comparisonFor d .number ≡ 0 → ⊥)
-    → (refusalLine (comparisonFor d .number) (comparisonFor d .side) (comparisonFor d .line) ≡ printedFor d) × (answerFor d answer ≡ answer)
+other : (d : Compared) (answer : Text) → (comparisonFor d .report .number ≡ 0 → ⊥)
+    → (refusalLine (comparisonFor d .report .number) (comparisonFor d .report .side) (comparisonFor d .report .line) ≡ printedFor d) × (answerFor d answer ≡ answer)
 unfolding printedFor
 other (refusedFor number side line) answer h = (refl, refl)
 other (answered t) answer h = absurd (h refl)
@@ -69,11 +69,11 @@ module _ (old new answer : Text) (work : List ℕ) (room : 1024 ≤ length answe
   unfolding answerAfter
   leaves = o .answered ∙ ap (λ (d : Compared). answerFor d answer) roomy
 
-  number-of : c .number ≡ comparisonFor (comparedOld old new (readingOf old)) .number
-  number-of = ap (λ (x : Comparison). x .number) handed
+  number-of : c .report .number ≡ comparisonFor (comparedOld old new (readingOf old)) .report .number
+  number-of = ap (λ (x : Comparison). x .report .number) handed
 
   -- number 0: the answer is what is printed
-  module _ (none : c .number ≡ 0) where
+  module _ (none : c .report .number ≡ 0) where
     pub answer-size : c .length ≡ length (printedOf old new)
     unfolding printedOf
     answer-size = ap (λ (x : Comparison). x .length) handed ∙ zero-old old new answer (readingOf old) (sym number-of ∙ none) .0
@@ -86,15 +86,15 @@ module _ (old new answer : Text) (work : List ℕ) (room : 1024 ≤ length answe
     answer-counts = written-counts (printedOf old new) answer left (c .length) answer-size answer-bytes
 
   -- another number: the refusal's line is
-  module _ (some : c .number ≡ 0 → ⊥) where
-    line : (refusalLine (c .number) (c .side) (c .line) ≡ printedOf old new) × (left ≡ answer)
+  module _ (some : c .report .number ≡ 0 → ⊥) where
+    line : (refusalLine (c .report .number) (c .report .side) (c .report .line) ≡ printedOf old new) × (left ≡ answer)
     unfolding printedOf
     line =
         let p = other (comparedOld old new (readingOf old)) answer (λ e. some (number-of ∙ e)) in
-        (ap (λ (x : Comparison). refusalLine (x .number) (x .side) (x .line)) handed ∙ p .0, leaves ∙ p .1)
+        (ap (λ (x : Comparison). refusalLine (x .report .number) (x .report .side) (x .report .line)) handed ∙ p .0, leaves ∙ p .1)
 
-    pub refused-size : (r : ℕ) → r ≡ length (refusalLine (c .number) (c .side) (c .line)) → r ≡ length (printedOf old new)
+    pub refused-size : (r : ℕ) → r ≡ length (refusalLine (c .report .number) (c .report .side) (c .report .line)) → r ≡ length (printedOf old new)
     refused-size r e = e ∙ ap length (line .0)
 
-    pub refused-bytes : (left′ : Text) → left′ ≡ written (refusalLine (c .number) (c .side) (c .line)) left → left′ ≡ written (printedOf old new) answer
+    pub refused-bytes : (left′ : Text) → left′ ≡ written (refusalLine (c .report .number) (c .report .side) (c .report .line)) left → left′ ≡ written (printedOf old new) answer
     refused-bytes left′ e = e ∙ rw (line .0, line .1)

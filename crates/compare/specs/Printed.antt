@@ -8,7 +8,7 @@ use Rattle.listings.specs.Refusals.{readingOf}
 use Rattle.worktable.specs.Work.{workAfter}
 use Rattle.trials.specs.Answers.{lineOf}
 use Rattle.writing.specs.Decimals.{digits}
-use Rattle.comparing.specs.Outcomes.{Compared, refusedFor, answered, comparedOld}
+use Rattle.comparisons.specs.Outcomes.{Compared, refusedFor, answered, comparedOld}
 
 -- a 32-bit number has ten decimal digits at most
 abbrev pub decimal : ℕ → Text

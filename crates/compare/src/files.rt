@@ -2,7 +2,7 @@
 ghost use Prim.Native.Nat.{_<_};
 ghost use lib.ListN.{length};
 ghost use Rattle.io.specs.Counts.{Counts};
-ghost use Rattle.listings.specs.Limits.{mostBytes};
+ghost use Rattle.limits.specs.Limits.{mostBytes};
 
 // Reads on until the file ends or buf is full, however few bytes come at a time. A file of which a read fails counts as no bytes,
 // as one that can't be opened does: its first bytes could be another listing, and a refusal is never a verdict.

@@ -2,7 +2,7 @@
 use comparing::comparer::ANSWER;
 use libc::STDERR_FILENO;
 use libc::STDOUT_FILENO;
-use listings::limits::BYTES;
+use limits::BYTES;
 use worktable::WORK;
 
 mod files; // a file's bytes

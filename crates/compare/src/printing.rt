@@ -49,8 +49,9 @@ pub fn compare_into<'a>(old: &'a [u8], new: &'a [u8], text: &mut [u8], work: &mu
     ensures fits { λ r. ⌜ Counts r (now (text .exit)) ⌝ }
 {
     let c = comparer::budquarry_compare(old, new, text, work);
-    if c.number == 0 {
+    let r = c.report;
+    if r.number == 0 {
         return c.length as usize;
     }
-    put_refusal(text, c.number, c.side, c.line)
+    put_refusal(text, r.number, r.side, r.line)
 }

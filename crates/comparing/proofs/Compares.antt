@@ -1,31 +1,34 @@
 -- The functions of the whole call: what each hands to the next is what the outcome speaks of.
-use mathlib.Core.Path.{_≡_, refl, sym, ap, subst, _∙_}
+use mathlib.Core.Path.{_≡_, sym, ap, ap₂, subst, _∙_}
 use mathlib.Core.Bool.{Bool, true, false}
 use mathlib.Core.List.{List, [], _∷_, _++_}
 use Prim.Native.Nat.{ℕ, zero, suc, _+_, _-_, _*_, _≤_, _<_}
 use native.Mathlib.Omega.{arith}
-use lib.ListN.{length, take, drop, replicate, length-append, length-drop}
+use lib.ListN.{length, take, drop, replicate, length-drop}
 use lib.Seq.{length-take-le, length-front, take-at, drop-at, take-take, take-nil, drop-drop, drop-append-add}
 use borrow.Rule.Slice.PartMut.{putMid, postOf, post-is, same-len-mid}
 use borrow.Author.Tests.{lt-ltb, le-ltb}
 use Rattle.text.specs.Texts.{Text, part}
-use Rattle.listings.specs.Listings.{listingOf}
 use Rattle.worktable.specs.Work.{zeroed, workAfter, isShort}
 use Rattle.worktable.proofs.Lengths.{too-short, long-enough}
-use Rattle.listings.specs.Refusals.{numberOf, readingOf}
-use Rattle.reading.specs.Room.{listingRoom}
-use Rattle.reading.specs.Holds.{Holds, LoadOutcome}
+use Rattle.listings.specs.Refusals.{numberOf, readingOf, report}
+use Rattle.entries.specs.Room.{listingRoom}
+use Rattle.reading.specs.Holds.{Holds, HoldsListing, LoadOutcome}
+use Rattle.reading.specs.Views.{View, texts, viewAt}
+use Rattle.trials.specs.Fillers.{firstNumber, fills}
 use Rattle.listings.specs.declared.answers.Fault.{Fault}
 use Rattle.reading.specs.declared.reader.Loaded.{Loaded}
 use Rattle.reading.specs.declared.reader.Loaded.the-variants.{Whole, Not}
-use Rattle.reading.specs.declared.tables.Tally.{Tally}
-use Rattle.comparing.specs.Outcomes.{comparedBoth, comparedNew, comparedOld, compared, comparisonFor, answerFor, comparisonOf, answerAfter, CompareOutcome}
+use Rattle.entries.specs.declared.tables.Tally.{Tally}
+use Rattle.comparisons.specs.Outcomes.{Compared, comparedBoth, comparedOld, compared, comparisonFor, answerFor, comparisonOf, answerAfter, CompareOutcome}
 use Rattle.grants.specs.Scratch.{Numbered}
 use Rattle.grants.specs.declared.scratch.Counts.{Counts}
-use Rattle.numbers.specs.Writes.{Both, BothHeld}
+use Rattle.numbers.specs.Writes.{BothHeld, oldView, newView}
 use Rattle.numbers.specs.declared.pairs.Pair.{Pair}
-use Rattle.comparing.specs.Tellings.{Prepared}
-use Rattle.comparing.specs.declared.answers.Comparison.{Comparison}
+use Rattle.comparing.specs.Tellings.{BothRead, Prepared, IsFiller, comparedHit}
+use Rattle.comparing.proofs.Tellings.{listings-told}
+use Rattle.walks.specs.Walks.{walked}
+use Rattle.comparisons.specs.declared.answers.Comparison.{Comparison}
 
 -- ---- the table that holds both listings
 -- a part of what is taken
@@ -35,23 +38,18 @@ part-cut (suc a) zero w = let z : 0 - suc a ≡ 0 = omega arith in rw z
 part-cut (suc a) (suc e) [] = take-nil (suc e - suc a)
 part-cut (suc a) (suc e) (x ∷ w) = let z : suc e - suc a ≡ e - a = omega arith in rw z (part-cut a e w)
 
--- where the first 2,048 numbers stay, both stay
-kept-both : (old new : Text) (pair : Pair) (w w′ : List ℕ) → take 2048 w′ ≡ take 2048 w → BothHeld old new w pair → BothHeld old new w′ pair
-kept-both old new pair w w′ k B = record { olds = subst (Holds old (pair .old)) first (B .olds); news = subst (Holds new (pair .new)) second (B .news) }
-  where
-    a : 1024 ≤ 2048
-    a = omega arith
+-- where the first 2,048 numbers stay, both parts stay
+module _ (w w′ : List ℕ) (kept : take 2048 w′ ≡ take 2048 w) where
+  old-part : part 0 1024 w′ ≡ part 0 1024 w
+  old-part = let a : 1024 ≤ 2048 = omega arith in sym (take-take 1024 2048 w′ a) ∙ ap (take 1024) kept ∙ take-take 1024 2048 w a
 
-    first : take 1024 w ≡ take 1024 w′
-    first = sym (take-take 1024 2048 w a) ∙ ap (take 1024) (sym k) ∙ take-take 1024 2048 w′ a
-
-    second : part 1024 2048 w ≡ part 1024 2048 w′
-    second = part-cut 1024 2048 w ∙ ap (drop 1024) (sym k) ∙ sym (part-cut 1024 2048 w′)
+  new-part : part 1024 2048 w′ ≡ part 1024 2048 w
+  new-part = part-cut 1024 2048 w′ ∙ ap (drop 1024) kept ∙ sym (part-cut 1024 2048 w)
 
 -- read into the first n numbers and the next n, both are held
-pub both-held : (old new : Text) (lo ln : Loaded) (n : ℕ) (w : List ℕ) → n ≡ 1024 → LoadOutcome old lo (take n w) → LoadOutcome new ln (take n (drop n w))
-    → (to tn : Tally) → lo ≡ Whole to → ln ≡ Whole tn → (pair : Pair) → pair ≡ record { old = to; new = tn } → BothHeld old new w pair
-both-held old new lo ln n w e O N to tn p q pair r =
+pub both-read : (old new : Text) (lo ln : Loaded) (n : ℕ) (w : List ℕ) → n ≡ 1024 → LoadOutcome old lo (take n w) → LoadOutcome new ln (take n (drop n w))
+    → (to tn : Tally) → lo ≡ Whole to → ln ≡ Whole tn → (pair : Pair) → pair ≡ record { old = to; new = tn } → BothRead old new w pair
+both-read old new lo ln n w e O N to tn p q pair r =
     let A : LoadOutcome old (Whole to) (take 1024 w) = rw (e, p) at O in
     let B : LoadOutcome new (Whole tn) (take 1024 (drop 1024 w)) = rw (e, q) at N in
     rw r (record { olds = A .holds; news = B .holds })
@@ -59,15 +57,45 @@ both-held old new lo ln n w e O N to tn p q pair r =
 pub long-table : (n : ℕ) (w : List ℕ) → n ≡ 1024 → 4 * n ≤ length w → 4096 ≤ length w
 long-table n w e h = omega arith
 
-module _ (old new : Text) (pair : Pair) (w w₁ : List ℕ) (B : BothHeld old new w pair) (kept : take (2 * 1024) w₁ ≡ take (2 * 1024) w) where
-  -- the filler's marks leave both
-  pub marked-both : BothHeld old new w₁ pair
-  marked-both = kept-both old new pair w w₁ kept B
+-- the filler's marks leave both, and so do the numbers
+module _ (old new : Text) (pair : Pair) (w w₁ : List ℕ) (B : BothRead old new w pair) (kept : take (2 * 1024) w₁ ≡ take (2 * 1024) w) where
+  read-1 : BothRead old new w₁ pair
+  read-1 = record { olds = subst (HoldsListing old (pair .old)) (sym (old-part w w₁ kept)) (B .olds); news = subst (HoldsListing new (pair .new)) (sym (new-part w w₁ kept)) (B .news) }
 
-  -- and so do the numbers
-  pub both-prepared : (w₂ : List ℕ) (c : Counts) → 4096 ≤ length w → length w₁ ≡ length w → length w₂ ≡ length w₁ → take 2048 w₂ ≡ take 2048 w₁
-      → Numbered (listingOf old) (listingOf new) (part 2048 4096 w₂) c → Prepared old new w₂ pair c
-  both-prepared w₂ c l p q k Z = record { both = kept-both old new pair w₁ w₂ k marked-both; long = omega arith; numbers = Z }
+  pub marked-both : BothHeld old new w₁ pair
+  marked-both = record { olds = read-1 .olds .holds; news = read-1 .news .holds }
+
+  module _ (w₂ : List ℕ) (kept₂ : take 2048 w₂ ≡ take 2048 w₁) where
+    olds-2 : oldView old w₂ pair ≡ oldView old w₁ pair
+    olds-2 = ap (viewAt old (pair .old)) (old-part w₁ w₂ kept₂)
+
+    news-2 : newView new w₂ pair ≡ newView new w₁ pair
+    news-2 = ap (viewAt new (pair .new)) (new-part w₁ w₂ kept₂)
+
+    -- the filler of what the table held first is that of what it holds
+    pub filler-stays : (n : ℕ) → n ≡ firstNumber (fills (texts (viewAt new (pair .new) (take 1024 (drop 1024 w))) ++ texts (viewAt old (pair .old) (take 1024 w))))
+        → IsFiller (oldView old w₂ pair) (newView new w₂ pair) n
+    filler-stays n e =
+        e ∙ ap₂ (λ (u v : View). firstNumber (fills (texts u ++ texts v)))
+        (ap (viewAt new (pair .new)) (sym (new-part w w₁ kept)) ∙ sym news-2) (ap (viewAt old (pair .old)) (sym (old-part w w₁ kept)) ∙ sym olds-2)
+
+    module _ (c : Counts) (Z : Numbered (oldView old w₁ pair) (newView new w₁ pair) (part 2048 4096 w₂) c) where
+      pub both-prepared : 4096 ≤ length w → length w₁ ≡ length w → length w₂ ≡ length w₁ → Prepared old new w₂ pair c
+      both-prepared l p q = record {
+        both = record { olds = subst (Holds old (pair .old)) (sym (old-part w₁ w₂ kept₂)) (marked-both .olds); news = subst (Holds new (pair .new)) (sym (new-part w₁ w₂ kept₂)) (marked-both .news) };
+        long = omega arith;
+        numbers = rw (olds-2, news-2) Z;
+      }
+
+      told : comparedHit (oldView old w₂ pair) (newView new w₂ pair) (walked (part 2048 4096 w₂) c) ≡ comparedBoth old new
+      told = rw (olds-2, news-2) (listings-told old new w₁ pair read-1 (part 2048 4096 w₂) c Z)
+
+      -- and what the walk finds is the verdict of the two listings
+      pub held-handed : (x : Comparison) → x ≡ comparisonFor (comparedHit (oldView old w₂ pair) (newView new w₂ pair) (walked (part 2048 4096 w₂) c)) → x ≡ comparisonFor (comparedBoth old new)
+      held-handed x e = e ∙ ap comparisonFor told
+
+      pub held-written : (out out′ : Text) → out′ ≡ answerFor (comparedHit (oldView old w₂ pair) (newView new w₂ pair) (walked (part 2048 4096 w₂) c)) out → out′ ≡ answerFor (comparedBoth old new) out
+      held-written out out′ e = e ∙ ap (λ (y : Compared). answerFor y out) told
 
 -- what stands behind stays
 pub rest-stays : (w w₁ w₂ : List ℕ) → drop (4 * 1024) w₁ ≡ drop (4 * 1024) w → drop 4096 w₂ ≡ drop 4096 w₁ → drop 4096 w₂ ≡ drop 4096 w
@@ -80,7 +108,7 @@ rest-of n w w′ e p = rw e p
 module _ (old new : Text) (lo ln : Loaded) (wo wn : List ℕ) (O : LoadOutcome old lo wo) (N : LoadOutcome new ln wn) where
   -- the old listing is refused
   module _ (f : Fault) (line : ℕ) (e : lo ≡ Not f line) where
-    pub old-refused : (k : ℕ) → k ≡ numberOf f → (x : Comparison) → x ≡ record { number = k; side = 1; line = line; length = 0 } → x ≡ comparisonFor (comparedOld old new (readingOf old))
+    pub old-refused : (k : ℕ) → k ≡ numberOf f → (x : Comparison) → x ≡ record { report = report k 1 line; length = 0 } → x ≡ comparisonFor (comparedOld old new (readingOf old))
     old-refused k p x q = rw (← O .answer, e, ← p) q
 
     pub old-keeps : (answer : Text) → answer ≡ answerFor (comparedOld old new (readingOf old)) answer
@@ -89,7 +117,7 @@ module _ (old new : Text) (lo ln : Loaded) (wo wn : List ℕ) (O : LoadOutcome o
   module _ (to : Tally) (whole : lo ≡ Whole to) where
     -- the new one is
     module _ (f : Fault) (line : ℕ) (e : ln ≡ Not f line) where
-      pub new-refused : (k : ℕ) → k ≡ numberOf f → (x : Comparison) → x ≡ record { number = k; side = 2; line = line; length = 0 } → x ≡ comparisonFor (comparedOld old new (readingOf old))
+      pub new-refused : (k : ℕ) → k ≡ numberOf f → (x : Comparison) → x ≡ record { report = report k 2 line; length = 0 } → x ≡ comparisonFor (comparedOld old new (readingOf old))
       new-refused k p x q = rw (← O .answer, whole, ← N .answer, e, ← p) q
 
       pub new-keeps : (answer : Text) → answer ≡ answerFor (comparedOld old new (readingOf old)) answer
@@ -186,7 +214,7 @@ module _ (n : ℕ) (w a b : List ℕ) (room : 4 * n ≤ length w) (long-a : leng
 -- ---- the whole call
 module _ (old new answer : Text) (w : List ℕ) (x : Comparison) where
   -- the work table is too short
-  pub compare-short : (b : Bool) → b ≡ isShort w → b ≡ true → x ≡ record { number = 1; side = 0; line = 0; length = 0 } → CompareOutcome old new answer w x answer w
+  pub compare-short : (b : Bool) → b ≡ isShort w → b ≡ true → x ≡ record { report = report 1 0 0; length = 0 } → CompareOutcome old new answer w x answer w
   unfolding comparisonOf answerAfter compared workAfter
   compare-short b is y e =
       let h = too-short w b is y in
@@ -197,7 +225,7 @@ module _ (old new answer : Text) (w : List ℕ) (x : Comparison) where
     long = long-enough w b is n
 
     -- the answer buffer is
-    pub compare-small : length answer < 1024 → x ≡ record { number = 14; side = 0; line = 0; length = 0 } → w′ ≡ zeroed 4096 w → CompareOutcome old new answer w x answer w′
+    pub compare-small : length answer < 1024 → x ≡ record { report = report 14 0 0; length = 0 } → w′ ≡ zeroed 4096 w → CompareOutcome old new answer w x answer w′
     unfolding comparisonOf answerAfter compared workAfter
     compare-small h e z = record { handed = rw (le-ltb _ _ long, lt-ltb _ _ h) e; answered = rw (le-ltb _ _ long, lt-ltb _ _ h); worked = rw (le-ltb _ _ long) z }
 

@@ -1,37 +1,48 @@
 -- What the functions of the call hand to each other: for the proofs alone.
 use Prim.Native.Nat.{ℕ, _≤_}
 use mathlib.Core.Path.{_≡_}
-use mathlib.Core.List.{List, _++_}
-use mathlib.Core.Option.{none, some}
-use lib.ListN.{length, take, drop}
+use mathlib.Core.List.{List}
+use lib.ListN.{length}
 use Rattle.text.specs.Texts.{Text, part}
-use Rattle.listings.specs.Listings.{listingOf}
+use Rattle.reading.specs.Holds.{HoldsListing}
+use Rattle.reading.specs.Views.{View}
 use Rattle.trials.specs.Fillers.{firstNumber, fills}
-use Rattle.trials.specs.Verdicts.{verdict}
-use Rattle.grants.specs.Scratch.{Numbered}
+use Rattle.trials.specs.Answers.{answerOf}
+use Rattle.grants.specs.Scratch.{textsOf, Numbered}
 use Rattle.grants.specs.declared.scratch.Counts.{Counts}
-use Rattle.numbers.specs.Writes.{BothHeld}
+use Rattle.numbers.specs.Writes.{BothHeld, oldView, newView}
 use Rattle.numbers.specs.declared.pairs.Pair.{Pair}
+use Rattle.walks.specs.Walks.{hitShown}
 use Rattle.walks.specs.declared.walking.Hit.{Hit}
 use Rattle.walks.specs.declared.walking.Hit.the-variants as H
-use Rattle.showing.specs.Shown.{linesOfBoth, FoundIn, foundRequest}
+use Rattle.showing.specs.Shown.{FoundIn}
 use Rattle.showing.specs.declared.hits.Found.{Found}
+use Rattle.comparisons.specs.Outcomes.{Compared, answered}
+
+-- the table holds two accepted listings
+pub record BothRead (old new : Text) (w : List ℕ) (pair : Pair) : Type 0 where
+  pub olds : HoldsListing old (pair .old) (part 0 1024 w)
+  pub news : HoldsListing new (pair .new) (part 1024 2048 w)
+
+-- the table has two views and their numbers
+pub record Prepared (old new : Text) (w : List ℕ) (pair : Pair) (c : Counts) : Type 0 where
+  pub both : BothHeld old new w pair
+  pub long : 4096 ≤ length w
+  pub numbers : Numbered (oldView old w pair) (newView new w pair) (part 2048 4096 w) c
+
+-- n is the number of two views' filler
+abbrev pub IsFiller : View → View → ℕ → Type 0
+IsFiller old new n = n ≡ firstNumber (fills (textsOf old new))
 
 -- the numbers of a hit
 abbrev pub foundAt : ℕ → ℕ → ℕ → ℕ → Found
 foundAt j e m d = record { stem = j; ending = e; method = m; caller = d }
 
--- a hit is the verdict, where the filler's number is n
-abbrev pub IsVerdict : Text → Text → ℕ → Hit → Type 0
-IsVerdict old new n H.Nothing = verdict (listingOf new) (listingOf old) ≡ none
-IsVerdict old new n (H.At j e m d) = FoundIn old new (foundAt j e m d) × (verdict (listingOf new) (listingOf old) ≡ some (foundRequest old new n (foundAt j e m d)))
+-- a hit is one of the trials of two views
+abbrev pub IsTrial : View → View → Hit → Type 0
+IsTrial old new H.Nothing = Unit {0}
+IsTrial old new (H.At j e m d) = FoundIn old new (foundAt j e m d)
 
--- n is the filler's number
-abbrev pub IsFiller : Text → Text → ℕ → Type 0
-IsFiller old new n = n ≡ firstNumber (fills (linesOfBoth old new))
-
--- the table has the texts of both listings and their numbers
-pub record Prepared (old new : Text) (w : List ℕ) (pair : Pair) (c : Counts) : Type 0 where
-  pub both : BothHeld old new w pair
-  pub long : 4096 ≤ length w
-  pub numbers : Numbered (listingOf old) (listingOf new) (part 2048 4096 w) c
+-- what is answered for a hit
+abbrev pub comparedHit : View → View → Hit → Compared
+comparedHit old new h = answered (answerOf (hitShown old new h))

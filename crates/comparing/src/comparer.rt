@@ -5,12 +5,15 @@ ghost use lib.ListN.{length, take, drop};
 ghost use Rattle.worktable.specs.Work.{zeroed};
 ghost use Rattle.listings.specs.Refusals.{readingOf};
 ghost use Rattle.reading.specs.Holds.{LoadOutcome};
-ghost use Rattle.numbers.specs.Writes.{BothHeld};
+ghost use Rattle.text.specs.Texts.{part};
+ghost use Rattle.numbers.specs.Writes.{oldView, newView};
+ghost use Rattle.walks.specs.Walks.{walked};
 ghost use Rattle.showing.specs.Shown.{Telling};
-ghost use Rattle.comparing.specs.Outcomes.{comparedBoth, comparedOld, comparisonFor, answerFor, CompareOutcome};
-ghost use Rattle.comparing.specs.Tellings.{IsVerdict, IsFiller, Prepared};
-use crate::answers;
-use crate::answers::Comparison;
+ghost use Rattle.comparisons.specs.Outcomes.{comparedBoth, comparedOld, comparisonFor, answerFor, CompareOutcome};
+ghost use Rattle.comparing.specs.Tellings.{BothRead, Prepared, IsFiller, IsTrial, comparedHit};
+use comparisons::answers;
+use comparisons::answers::Comparison;
+use entries::tables;
 use fillers::finding;
 use grants::scratch::Counts;
 use listings::answers::SHORT_TABLE;
@@ -20,7 +23,6 @@ use numbers::numbering;
 use numbers::pairs::Pair;
 use reading::reader;
 use reading::reader::Loaded;
-use reading::tables;
 use showing::hits;
 use showing::hits::Found;
 use walks::walking;
@@ -36,9 +38,9 @@ pub fn tell<'a, 'b>(
     h: Hit,
     answer: &mut [u8],
 ) -> Comparison
-    requires { ⌜ (Telling (now old) (now new) (now w) pair × IsVerdict (now old) (now new) n h) × (1024 ≤ length (now answer)) ⌝ }
-    ensures handed { λ r. ⌜ r ≡ comparisonFor (comparedBoth (now (old .entry)) (now (new .entry))) ⌝ }
-    ensures answer { λ _. ⌜ now (answer .exit) ≡ answerFor (comparedBoth (now (old .entry)) (now (new .entry))) (now (answer .entry)) ⌝ }
+    requires { ⌜ ((Telling (now old) (now new) (now w) pair × IsTrial (oldView (now old) (now w) pair) (newView (now new) (now w) pair) h) × IsFiller (oldView (now old) (now w) pair) (newView (now new) (now w) pair) n) × (1024 ≤ length (now answer)) ⌝ }
+    ensures handed { λ r. ⌜ r ≡ comparisonFor (comparedHit (oldView (now (old .entry)) (now (w .entry)) pair) (newView (now (new .entry)) (now (w .entry)) pair) h) ⌝ }
+    ensures answer { λ _. ⌜ now (answer .exit) ≡ answerFor (comparedHit (oldView (now (old .entry)) (now (w .entry)) pair) (newView (now (new .entry)) (now (w .entry)) pair) h) (now (answer .entry)) ⌝ }
 {
     match h {
         Hit::Nothing => answers::tell(writing::put(answer, 0, b"verdict\tno wider\n")),
@@ -54,7 +56,7 @@ pub fn tell<'a, 'b>(
     }
 }
 
-// The same once both texts are numbers.
+// The answer of two views once their texts are numbers: what the walk finds.
 pub fn compare_numbers<'a, 'b>(
     old: &'a [u8],
     new: &'a [u8],
@@ -64,9 +66,9 @@ pub fn compare_numbers<'a, 'b>(
     c: Counts,
     answer: &mut [u8],
 ) -> Comparison
-    requires { ⌜ (Prepared (now old) (now new) (now w) pair c × IsFiller (now old) (now new) n) × (1024 ≤ length (now answer)) ⌝ }
-    ensures handed { λ r. ⌜ r ≡ comparisonFor (comparedBoth (now (old .entry)) (now (new .entry))) ⌝ }
-    ensures answer { λ _. ⌜ now (answer .exit) ≡ answerFor (comparedBoth (now (old .entry)) (now (new .entry))) (now (answer .entry)) ⌝ }
+    requires { ⌜ (Prepared (now old) (now new) (now w) pair c × IsFiller (oldView (now old) (now w) pair) (newView (now new) (now w) pair) n) × (1024 ≤ length (now answer)) ⌝ }
+    ensures handed { λ r. ⌜ r ≡ comparisonFor (comparedHit (oldView (now (old .entry)) (now (w .entry)) pair) (newView (now (new .entry)) (now (w .entry)) pair) (walked (part 2048 4096 (now (w .entry))) c)) ⌝ }
+    ensures answer { λ _. ⌜ now (answer .exit) ≡ answerFor (comparedHit (oldView (now (old .entry)) (now (w .entry)) pair) (newView (now (new .entry)) (now (w .entry)) pair) (walked (part 2048 4096 (now (w .entry))) c)) (now (answer .entry)) ⌝ }
 {
     let h = walking::walk(&w[2048..4096], c);
     tell(old, new, w, pair, n, h, answer)
@@ -80,7 +82,7 @@ pub fn compare_held<'a, 'b>(
     answer: &mut [u8],
     w: &'b mut [u32],
 ) -> Comparison
-    requires { ⌜ ((4096 ≤ length (now w)) × BothHeld (now old) (now new) (now w) pair) × (1024 ≤ length (now answer)) ⌝ }
+    requires { ⌜ ((4096 ≤ length (now w)) × BothRead (now old) (now new) (now w) pair) × (1024 ≤ length (now answer)) ⌝ }
     ensures handed { λ r. ⌜ r ≡ comparisonFor (comparedBoth (now (old .entry)) (now (new .entry))) ⌝ }
     ensures answer { λ _. ⌜ now (answer .exit) ≡ answerFor (comparedBoth (now (old .entry)) (now (new .entry))) (now (answer .entry)) ⌝ }
     ensures rest { λ _. ⌜ drop 4096 (now (w .exit)) ≡ drop 4096 (now (w .entry)) ⌝ }

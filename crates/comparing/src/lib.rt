@@ -1,3 +1,2 @@
-// Comparing two listings: the layer above `deciding`, and proved from the contracts below alone. specs/Lib.antt of `trials` says what is compared.
-pub mod answers; // what is handed back
+// Comparing two listings: the layer above `deciding`, and proved from the contracts below alone. The crate `trials` says what is compared, `comparisons` what is handed back.
 pub mod comparer; // the whole call

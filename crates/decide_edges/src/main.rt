@@ -11,7 +11,8 @@ fn try_request(name: &[u8], listing: &[u8], path: &[u8], method: &[u8], login: u
     let mut w = [0u32; 5000];
     work::fill(&mut w);
     let d = decider::budquarry_decide(listing, path, method, login, roles, &mut w);
-    lines::show_start(name, d.number, d.side, d.line);
+    let r = d.report;
+    lines::show_start(name, r.number, r.side, r.line);
     lines::show_number(d.answer);
     lines::show_end(work::is_cleared(&w, 4096));
 }

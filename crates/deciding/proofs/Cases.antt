@@ -6,7 +6,7 @@ use lib.ListN.{length}
 use borrow.Author.Tests.{le-ltb}
 use Rattle.text.specs.Texts.{Text, bytes}
 use Rattle.text.specs.Bytes.{isText, isToken}
-use Rattle.listings.specs.Names.{isRoleName, isMethodName}
+use Rattle.names.specs.Names.{isRoleName, isMethodName}
 use Rattle.listings.specs.Records.{namesRole}
 use Rattle.listings.specs.Refusals.{readingOf}
 use Rattle.listings.specs.Listings.{listingOf}

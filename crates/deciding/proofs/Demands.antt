@@ -15,7 +15,6 @@ use Rattle.decisions.specs.Requests.{Caller, isPath, isMethod, callerOf}
 use Rattle.decisions.specs.Decisions.{isGrant, answerNumber}
 use Rattle.decisions.proofs.Promises.{never-loses, grant-number}
 use Rattle.deciding.specs.Outcomes.{refused, answered, isGranted, Asked, asked, decideCaller, decideListing, decisionOf, DecideOutcome}
-use Rattle.deciding.specs.Rows.{reportIn}
 use Rattle.deciding.specs.Demands.{DefiniteDecision, EveryDecisionIsDefinite, Asks, answerFor, RightDecision, EveryDecisionIsRight, LoginNeverLoses}
 use Rattle.deciding.specs.declared.answers.Decision.{Decision}
 use Rattle.deciding.proofs.Promises.{callers-extend, refusal-grants-nothing, decide-unique, table-never-matters}
@@ -27,7 +26,7 @@ decision-definite = record { answered = λ a w. (decisionOf a w, workAfter w, re
   where
     definite : (a : Asked) (w : List ℕ) (d : Decision) (left : List ℕ) → DecideOutcome a w d left → DefiniteDecision a w d left
     definite a w d left O =
-        let reported = ap reportIn (O .decision) in
+        let reported = ap (λ (x : Decision). x .report) (O .decision) in
         let refuses = decide-refused-exactly a w in
         let ruled = decide-listing-refused-exactly a w in
         record {
@@ -42,23 +41,23 @@ decision-definite = record { answered = λ a w. (decisionOf a w, workAfter w, re
 -- ---- demand 2
 module _ (a : Asked) (w : List ℕ) where
   -- where nothing is refused, somebody asks
-  asks-of : decisionOf a w .number ≡ 0 → (c : Caller) × Asks a w c
+  asks-of : decisionOf a w .report .number ≡ 0 → (c : Caller) × Asks a w c
   unfolding decisionOf
   asks-of h = short (isShort w) (readingOf (a .listing)) refl refl h
     where
-      called : (o : Option Caller) → callerOf (a .login) (a .names) ≡ o → decideCaller a o .number ≡ 0
+      called : (o : Option Caller) → callerOf (a .login) (a .names) ≡ o → decideCaller a o .report .number ≡ 0
           → isShort w ≡ false → readingOf (a .listing) ≡ accepted → isPath (a .path) ≡ true → isMethod (a .method) ≡ true → (c : Caller) × Asks a w c
       called none e i s r p m = absurd (omega arith)
       called (some c) e i s r p m = (c, record { long = s; reads = r; path = p; method = m; called = e })
 
       requested : (p m : Bool) → isPath (a .path) ≡ p → isMethod (a .method) ≡ m
-          → cond p (cond m (decideCaller a (callerOf (a .login) (a .names))) (refused 12 0 0)) (refused 11 0 0) .number ≡ 0
+          → cond p (cond m (decideCaller a (callerOf (a .login) (a .names))) (refused 12 0 0)) (refused 11 0 0) .report .number ≡ 0
           → isShort w ≡ false → readingOf (a .listing) ≡ accepted → (c : Caller) × Asks a w c
       requested true true p m i s r = called (callerOf (a .login) (a .names)) refl i s r p m
       requested true false p m i s r = absurd (omega arith)
       requested false m p q i s r = absurd (omega arith)
 
-      short : (b : Bool) (x : Reading) → isShort w ≡ b → readingOf (a .listing) ≡ x → cond b (refused 1 0 0) (decideListing a x) .number ≡ 0
+      short : (b : Bool) (x : Reading) → isShort w ≡ b → readingOf (a .listing) ≡ x → cond b (refused 1 0 0) (decideListing a x) .report .number ≡ 0
           → (c : Caller) × Asks a w c
       short true x s r i = absurd (omega arith)
       short false accepted s r i = requested (isPath (a .path)) (isMethod (a .method)) refl refl i s r
@@ -77,17 +76,17 @@ module _ (a : Asked) (w : List ℕ) (d : Decision) (left : List ℕ) (O : Decide
   grant-same : (c : Caller) → Asks a w c → isGranted d ≡ isGrant (answerFor a c)
   grant-same c A = ap isGranted (is-answered c A) ∙ grant-number (answerFor a c)
 
-  not-refused : (c : Caller) → Asks a w c → d .number ≡ 0
-  not-refused c A = ap (λ (x : Decision). x .number) (is-answered c A)
+  not-refused : (c : Caller) → Asks a w c → d .report .number ≡ 0
+  not-refused c A = ap (λ (x : Decision). x .report .number) (is-answered c A)
 
-  somebody : d .number ≡ 0 → (c : Caller) × Asks a w c
-  somebody e = asks-of a w (ap (λ (x : Decision). x .number) (sym (O .decision)) ∙ e)
+  somebody : d .report .number ≡ 0 → (c : Caller) × Asks a w c
+  somebody e = asks-of a w (ap (λ (x : Decision). x .report .number) (sym (O .decision)) ∙ e)
 
   -- a grant is not refused
-  granted-heard : isGranted d ≡ true → d .number ≡ 0
-  granted-heard g = go (d .number) refl
+  granted-heard : isGranted d ≡ true → d .report .number ≡ 0
+  granted-heard g = go (d .report .number) refl
     where
-      go : (n : ℕ) → d .number ≡ n → n ≡ 0
+      go : (n : ℕ) → d .report .number ≡ n → n ≡ 0
       go zero e = refl
       go (suc n) e = absurd (never (isGranted d) g (refusal-grants-nothing a w d left O (omega arith) .1))
 

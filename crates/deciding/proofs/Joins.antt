@@ -1,4 +1,4 @@
--- What the code joins, in numbers and sets, is what is gathered from the `pattern` lines: so it comes to Decisions' answer.
+-- What the code joins of a listing's view, in numbers and sets, is what is gathered from its `pattern` lines: so it comes to Decisions' answer.
 use mathlib.Core.Path.{_≡_, refl, sym, ap, ap₂, _∙_}
 use mathlib.Core.Bool.{Bool, true, false, not, cond, _&&_, _||_, or-false, and-or-distrib-left, and-false}
 use mathlib.Core.List.{List, [], _∷_, map, List·Memᴰ, List·Memᴰ·head, List·Memᴰ·tail}
@@ -14,19 +14,20 @@ use lib.Dec.{eqb, ltb}
 use lib.Bits.{bitOr}
 use borrow.Author.Tests.{le-ltb}
 use Rattle.text.specs.Texts.{Text, bytes, same, member, run, indexOf}
-use Rattle.listings.specs.Records.{isStar}
-use Rattle.listings.specs.Names.{isMethodName}
+use Rattle.names.specs.Names.{isStar, isMethodName}
 use Rattle.listings.specs.Listings.{Constrained, Listing, PatternLine, covers, closes, patternLinesOf, patternsOf}
 use Rattle.listings.specs.Propers.{Proper}
-use Rattle.reading.specs.Sets.{setOf, digit}
+use Rattle.entries.specs.Sets.{setOf, digit}
 use Rattle.reading.specs.Views as W
+use Rattle.reading.specs.Views.{viewOf}
 use Rattle.reading.specs.declared.held.Access.the-variants as K
 use Rattle.reading.specs.declared.held.Access.{Access as Said}
 use Rattle.text.proofs.Truths.{never, not-so}
 use Rattle.text.proofs.Spans.{same-equal}
 use Rattle.text.proofs.Indices.{run-step, index-member, index-bound, index-here}
-use Rattle.listings.proofs.Plainly.{same-swap, member-append}
-use Rattle.reading.proofs.Digits.{set-same, digit-set, set-or, set-none}
+use Rattle.names.proofs.Plainly.{same-swap, member-append}
+use Rattle.entries.proofs.Digits.{set-same, digit-set, set-or, set-none}
+use Rattle.reading.proofs.Viewings.{texts-of, cover-of, access-of}
 use Rattle.decisions.specs.Matching.{best}
 use Rattle.decisions.specs.Requests.{Caller, nobody, holder, request}
 use Rattle.decisions.specs.Combining.{Access, closed, free, roles, join, neutral, anyOf, rolesOf, accessOf}
@@ -35,13 +36,13 @@ use Rattle.decisions.specs.Gatherings.{isFor, Gathered, nothingGathered, withLi
 use Rattle.decisions.specs.declared.answers.Answer.the-variants.{Open, ByRole, Closed, RoleLacking}
 use Rattle.decisions.proofs.Takings.{line-named}
 use Rattle.decisions.proofs.Gatherings.{line-past, line-taken, gathered-combined}
-use Rattle.deciding.specs.Strengths.{leading, bestLine}
+use Rattle.matching.specs.Strengths.{leading, bestLine}
 use Rattle.deciding.specs.Joinings as J
 use Rattle.deciding.specs.Joinings.{nothingJoined, joinWith, isLineFor, joinedUpTo, joinedAnswer}
 use Rattle.deciding.specs.Deciders.{answerFor}
 use Rattle.deciding.specs.declared.joining.Joined.{Joined}
-use Rattle.deciding.proofs.Strengths.{best-line-some, best-line-none}
-use Rattle.deciding.proofs.Holders.{whoAs, held-meets}
+use Rattle.matching.proofs.Strengths.{best-line-some, best-line-none}
+use Rattle.callers.proofs.Holders.{whoAs, held-meets}
 
 -- ---- digits
 -- a name that is no method of the listing is none of those of a collection
@@ -72,7 +73,7 @@ module _ (l : Listing) (P : Proper l) (m : Text) where
             unlisted l (r .collection .methods) (P .methods-listed r i) m q,
           )
 
-  -- so the digit at the method's place says whether the rule covers it
+  -- so the digit at the method's place says whether the line covers it
   covers-digit : (r : PatternLine) → List·Memᴰ r (patternLinesOf l) → eqb (digit (indexOf m (l .methods)) (W.coverSet l (r .collection))) 1 ≡ covers (r .collection) m
   unfolding W.coverSet
   covers-digit r i =
@@ -94,11 +95,11 @@ noLine = record {
   constraint = record { isOpen = true; allowed = []; collections = [] };
 }
 
--- the rule of line k
+-- line k
 abbrev lineAt : Listing → ℕ → PatternLine
 lineAt l k = getD (patternLinesOf l) k noLine
 
--- it is one of the rules
+-- it is one of the lines
 line-listed : (rs : List PatternLine) (k : ℕ) → k < length rs → List·Memᴰ (getD rs k noLine) rs
 line-listed [] k h = absurd (omega arith)
 line-listed (r ∷ rs) zero h = List·Memᴰ·head refl
@@ -111,20 +112,20 @@ map-at f (x ∷ xs) zero d z h = refl
 map-at f (x ∷ xs) (suc k) d z h = map-at f xs k d z (omega arith)
 
 module _ (l : Listing) (P : Proper l) (t m : Text) (k : ℕ) (h : k < length (patternLinesOf l)) where
-  -- a line is for the text and the method where its rule is
-  line-is-for : isLineFor l t (indexOf m (l .methods)) k ≡ isFor t m (lineAt l k)
-  unfolding isLineFor isFor patternsOf W.coverAt
+  -- line k of the view is for the text and the method where that of the listing is
+  line-is-for : isLineFor (viewOf l) t (indexOf m (l .methods)) k ≡ isFor t m (lineAt l k)
+  unfolding isLineFor isFor patternsOf
   line-is-for =
       ap₂ (λ (u : Text) (x : ℕ). same u t && eqb (digit (indexOf m (l .methods)) x) 1)
-      (map-at (λ (r : PatternLine). r .text) (patternLinesOf l) k noLine [] h) (map-at (λ (r : PatternLine). W.coverSet l (r .collection)) (patternLinesOf l) k noLine 0 h)
+      (ap (λ (us : List Text). getD us k []) (texts-of l) ∙ map-at (λ (r : PatternLine). r .text) (patternLinesOf l) k noLine [] h)
+      (cover-of l k ∙ map-at (λ (r : PatternLine). W.coverSet l (r .collection)) (patternLinesOf l) k noLine 0 h)
       ∙ ap (λ (b : Bool). same (lineAt l k .text) t && b) (covers-digit l P m (lineAt l k) (line-listed (patternLinesOf l) k h))
 
-  -- it says what its rule's constraint says
-  line-access : W.accessAt l k ≡ W.accessOf l (lineAt l k .constraint)
-  unfolding W.accessAt
-  line-access = map-at (λ (r : PatternLine). W.accessOf l (r .constraint)) (patternLinesOf l) k noLine K.Open h
+  -- it says what that line's constraint says
+  line-access : W.accessAt (viewOf l) k ≡ W.accessOf l (lineAt l k .constraint)
+  line-access = access-of l k ∙ map-at (λ (r : PatternLine). W.accessOf l (r .constraint)) (patternLinesOf l) k noLine K.Open h
 
--- there are as many lines as rules
+-- there are as many pattern texts as lines
 line-count : (l : Listing) → length (patternsOf l) ≡ length (patternLinesOf l)
 unfolding patternsOf
 line-count l = length-map (patternLinesOf l) (λ (r : PatternLine). r .text)
@@ -269,7 +270,7 @@ module _ (l : Listing) (P : Proper l) (r : PatternLine) (here : List·Memᴰ r (
 module _ (l : Listing) (P : Proper l) (t m : Text) where
   -- what is joined and gathered from the first k lines
   joins : ℕ → Joined
-  joins k = joinedUpTo l t (indexOf m (l .methods)) k
+  joins k = joinedUpTo (viewOf l) t (indexOf m (l .methods)) k
 
   gathers : ℕ → Gathered
   gathers k = run (withLine (l .declared) t m) nothingGathered (take k (patternLinesOf l))
@@ -285,57 +286,57 @@ module _ (l : Listing) (P : Proper l) (t m : Text) where
       (go (isFor t m (lineAt l k)) refl (agree-up-to k (omega arith)))
     where
       go : (b : Bool) → isFor t m (lineAt l k) ≡ b → Agree (joins k) (gathers k)
-          → Agree (cond b (joinWith (joins k) (W.accessAt l k)) (joins k)) (withLine (l .declared) t m (gathers k) (lineAt l k))
+          → Agree (cond b (joinWith (joins k) (W.accessAt (viewOf l) k)) (joins k)) (withLine (l .declared) t m (gathers k) (lineAt l k))
       go true e A =
           rw (line-taken (l .declared) t m (gathers k) (lineAt l k) e, line-access l P t m k h)
           (join-any (joins k) (W.accessOf l (lineAt l k .constraint)), shows-more l (joins k) (gathers k .sum) (W.accessOf l (lineAt l k .constraint)) (accessOf (l .declared) (lineAt l k .constraint)) (A .1) (line-says l P (lineAt l k) (line-listed (patternLinesOf l) k h)))
       go false e A = rw (line-past (l .declared) t m (gathers k) (lineAt l k) e) A
 
   -- all of them: whether a line is for the text and the method, and what they come to
-  pub agree-all : Agree (joinedUpTo l t (indexOf m (l .methods)) (length (patternsOf l))) (gathered l t m)
+  pub agree-all : Agree (joinedUpTo (viewOf l) t (indexOf m (l .methods)) (length (patternsOf l))) (gathered l t m)
   unfolding joins gathers gathered
   agree-all = rw (line-count l) (rw take-length at (agree-up-to (length (patternLinesOf l)) (omega arith)))
 
 -- ---- the answer
 module _ (l : Listing) (P : Proper l) where
   -- by the roles
-  roles-answer : (f : Text → Bool) → Listed l f → (c : Caller) → J.roleAnswer (rolesThat l f) (whoAs l c) ≡ answerTo (roles f) c
-  unfolding answerTo
+  roles-answer : (f : Text → Bool) → Listed l f → (c : Caller) → J.roleAnswer (rolesThat l f) (whoAs (viewOf l) c) ≡ answerTo (roles f) c
+  unfolding answerTo viewOf
   roles-answer f named nobody = refl
-  roles-answer f named (holder ns) = rw (held-meets l (P .few-roles) f named ns) (go (anyOf f ns))
+  roles-answer f named (holder ns) = rw (held-meets (viewOf l) (P .few-roles) f named ns) (go (anyOf f ns))
     where
       go : (b : Bool) → cond (not b) RoleLacking ByRole ≡ cond b ByRole RoleLacking
       go true = refl
       go false = refl
 
   -- what is joined gives the answer of what is gathered
-  shows-answer : (j : Joined) (a : Access) (c : Caller) → Shows l j a → cond (j .closed) Closed (cond (j .free) Open (J.roleAnswer (j .roles) (whoAs l c))) ≡ answerTo a c
+  shows-answer : (j : Joined) (a : Access) (c : Caller) → Shows l j a → cond (j .closed) Closed (cond (j .free) Open (J.roleAnswer (j .roles) (whoAs (viewOf l) c))) ≡ answerTo a c
   unfolding answerTo
   shows-answer j closed c s = rw s
   shows-answer j free c s = rw (s .0, s .1)
   shows-answer j (roles f) c s = rw (s .0, s .1, s .2) (roles-answer f (s .3) c)
 
   joined-answer : (j : Joined) (g : Gathered) (c : Caller) → (j .any ≡ g .any) × Shows l j (g .sum)
-      → joinedAnswer j (whoAs l c) ≡ answerTo (cond (g .any) (g .sum) nothingTaken) c
+      → joinedAnswer j (whoAs (viewOf l) c) ≡ answerTo (cond (g .any) (g .sum) nothingTaken) c
   unfolding joinedAnswer answerTo
   joined-answer j g c A = rw (A .0) (go (g .any))
     where
-      go : (b : Bool) → cond (not b) Open (cond (j .closed) Closed (cond (j .free) Open (J.roleAnswer (j .roles) (whoAs l c)))) ≡ answerTo (cond b (g .sum) nothingTaken) c
+      go : (b : Bool) → cond (not b) Open (cond (j .closed) Closed (cond (j .free) Open (J.roleAnswer (j .roles) (whoAs (viewOf l) c)))) ≡ answerTo (cond b (g .sum) nothingTaken) c
       go true = shows-answer j (g .sum) c (A .1)
       go false = refl
 
-  -- so what the code answers is what the listing decides
-  pub answer-for : (path m : Text) (c : Caller) → answerFor l path m (whoAs l c) ≡ decide l (request path m c)
-  unfolding answerFor decide combinedFor combinedAt answerTo bestLine
-  answer-for path m c = go (eqb (leading (patternsOf l) path .most) 0) refl
+  -- so what the code answers by a listing's view is what the listing decides
+  pub answer-for : (path m : Text) (c : Caller) → answerFor (viewOf l) path m (whoAs (viewOf l) c) ≡ decide l (request path m c)
+  unfolding answerFor viewOf decide combinedFor combinedAt answerTo bestLine
+  answer-for path m c = rw (texts-of l) (go (eqb (leading (patternsOf l) path .most) 0) refl)
     where
       text : Text
       text = getD (patternsOf l) (leading (patternsOf l) path .at) []
 
       joined : Joined
-      joined = joinedUpTo l text (indexOf m (l .methods)) (length (patternsOf l))
+      joined = joinedUpTo (viewOf l) text (indexOf m (l .methods)) (length (patternsOf l))
 
-      go : (b : Bool) → eqb (leading (patternsOf l) path .most) 0 ≡ b → cond b Open (joinedAnswer joined (whoAs l c)) ≡ answerTo (combinedAt l (best (patternsOf l) path) m) c
+      go : (b : Bool) → eqb (leading (patternsOf l) path .most) 0 ≡ b → cond b Open (joinedAnswer joined (whoAs (viewOf l) c)) ≡ answerTo (combinedAt l (best (patternsOf l) path) m) c
       go true q =
           let b : best (patternsOf l) path ≡ none = best-line-none (patternsOf l) path (P .short-patterns) .0 (rw q) in
           rw b

@@ -38,7 +38,7 @@ callers-extend (suc (suc k)) login′ names names′ c d e f h i = absurd (Optio
 
 -- ---- a refusal is no grant
 -- of any outcome that satisfies the statement, with a work table of any length: beside a refusal the answer is 0, which is none of the answers' numbers
-pub refusal-grants-nothing : (a : Asked) (w : List ℕ) (d : Decision) (left : List ℕ) → DecideOutcome a w d left → 1 ≤ d .number
+pub refusal-grants-nothing : (a : Asked) (w : List ℕ) (d : Decision) (left : List ℕ) → DecideOutcome a w d left → 1 ≤ d .report .number
     → (d .answer ≡ 0) × (isGranted d ≡ false)
 unfolding decisionOf
 refusal-grants-nothing a w d left O h = short (isShort w) (readingOf (a .listing)) (O .decision)
@@ -47,7 +47,7 @@ refusal-grants-nothing a w d left O h = short (isShort w) (readingOf (a .listing
     refuses n s l e = (ap (λ (x : Decision). x .answer) e, ap isGranted e)
 
     answers : (k : ℕ) → d ≡ answered k → (d .answer ≡ 0) × (isGranted d ≡ false)
-    answers k e = let z : d .number ≡ 0 = ap (λ (x : Decision). x .number) e in absurd (omega arith)
+    answers k e = let z : d .report .number ≡ 0 = ap (λ (x : Decision). x .report .number) e in absurd (omega arith)
 
     called : (c : Option Caller) → d ≡ decideCaller a c → (d .answer ≡ 0) × (isGranted d ≡ false)
     called none e = refuses 13 0 0 e

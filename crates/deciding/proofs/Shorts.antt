@@ -1,27 +1,32 @@
--- The patterns of a listing that the work table holds are few and short: it is an accepted one.
+-- The patterns of a view that the work table holds are few and short.
+use mathlib.Core.Path.{_≡_}
 use mathlib.Core.List.{List, []}
 use Prim.Native.Nat.{ℕ, _≤_, _<_}
 use native.Mathlib.Decide.{decLt}
 use native.Mathlib.Omega.{arith}
 use lib.ListN.{length, getD, List·getD-eq-default}
 use Rattle.text.specs.Texts.{Text}
-use Rattle.listings.specs.Listings.{listingOf, patternsOf}
 use Rattle.reading.specs.Holds.{Holds}
-use Rattle.reading.specs.declared.tables.Tally.{Tally}
-use Rattle.listings.specs.Propers.{Proper}
-use Rattle.reading.proofs.Accepted.{accepted-proper}
-use Rattle.deciding.proofs.Strengths.{at-listed}
+use Rattle.reading.specs.Views.{texts, viewAt}
+use Rattle.entries.specs.declared.tables.Tally.{Tally}
+use Rattle.matching.specs.declared.Leading.{Leading}
+use Rattle.matching.proofs.Strengths.{at-listed}
 
 module _ (s : Text) (t : Tally) (w : List ℕ) (H : Holds s t w) where
-  proper : Proper (listingOf s)
-  proper = accepted-proper s (H .accepts)
+  pub pattern-few : length (texts (viewAt s t w)) ≤ 128
+  pattern-few = H .proper .few-patterns
 
-  pub pattern-few : length (patternsOf (listingOf s)) ≤ 128
-  pattern-few = proper .few-patterns
-
-  pub pattern-short : (k : ℕ) → length (getD (patternsOf (listingOf s)) k []) ≤ 255
-  pattern-short k = go (decLt k (length (patternsOf (listingOf s))))
+  pub pattern-short : (k : ℕ) → length (getD (texts (viewAt s t w)) k []) ≤ 255
+  pattern-short k = go (decLt k (length (texts (viewAt s t w))))
     where
-      go : Dec (k < length (patternsOf (listingOf s))) → length (getD (patternsOf (listingOf s)) k []) ≤ 255
-      go (yes h) = proper .short-patterns (getD (patternsOf (listingOf s)) k []) (at-listed (patternsOf (listingOf s)) k h)
-      go (no n) = let h : length (patternsOf (listingOf s)) ≤ k = omega arith in rw (List·getD-eq-default (patternsOf (listingOf s)) [] h) (omega arith)
+      go : Dec (k < length (texts (viewAt s t w))) → length (getD (texts (viewAt s t w)) k []) ≤ 255
+      go (yes h) = H .proper .short-patterns (getD (texts (viewAt s t w)) k []) (at-listed (texts (viewAt s t w)) k h)
+      go (no n) = let h : length (texts (viewAt s t w)) ≤ k = omega arith in rw (List·getD-eq-default (texts (viewAt s t w)) [] h) (omega arith)
+
+-- the same, as the code that goes through them meets it
+module _ (s : Text) (t : Tally) (w : List ℕ) (H : Holds s t w) (k : ℕ) where
+  pub lead-few : (x : Leading) (n : ℕ) → x .seen ≡ k → n ≡ length (texts (viewAt s t w)) → k < n → x .seen < 1000
+  lead-few x n i e h = omega (arith, pattern-few s t w H)
+
+  pub lead-short : (p : Text) → p ≡ getD (texts (viewAt s t w)) k [] → length p ≤ 255
+  lead-short p e = rw e (pattern-short s t w H k)

@@ -11,14 +11,13 @@ use lib.Dec.{eqb}
 use lib.Bits.{bitAnd, bitOr}
 use borrow.Author.Tests.{ne-eqb, not-true, not-false}
 use Rattle.text.specs.Texts.{Text, same}
-use Rattle.listings.specs.Listings.{Listing, patternsOf}
-use Rattle.reading.specs.Views.{coverAt, accessAt}
+use Rattle.reading.specs.Views.{View, texts, coverAt, accessAt}
 use Rattle.reading.specs.declared.held.Access.{Access}
 use Rattle.reading.specs.declared.held.Access.the-variants as K
 use Rattle.deciding.specs.Joinings.{joinWith, isLineFor, joinedUpTo, joinedAnswer}
 use Rattle.decisions.specs.declared.answers.Answer.the-variants.{Open, ByRole, Closed, LoginWanted, RoleLacking}
-use Rattle.deciding.specs.declared.callers.Who.{Who}
-use Rattle.deciding.specs.declared.callers.Who.the-variants.{Nobody, Roles}
+use Rattle.callers.specs.declared.Who.{Who}
+use Rattle.callers.specs.declared.Who.the-variants.{Nobody, Roles}
 use Rattle.deciding.specs.declared.joining.Joined.{Joined}
 
 -- ---- with one constraint more
@@ -36,37 +35,37 @@ module _ (j : Joined) (a : Access) where
   join-by-role x e = rw e
 
 -- ---- whether a line is for the text and the method
-module _ (l : Listing) (t : Text) (m k : ℕ) (u : Text) (r : Bool) (here : u ≡ getD (patternsOf l) k []) (tested : r ≡ same u t) where
+module _ (v : View) (t : Text) (m k : ℕ) (u : Text) (r : Bool) (here : u ≡ getD (texts v) k []) (tested : r ≡ same u t) where
   -- it has another text
-  pub line-other : not r ≡ true → false ≡ isLineFor l t m k
+  pub line-other : not r ≡ true → false ≡ isLineFor v t m k
   unfolding isLineFor
   line-other n = rw (← here, ← tested, not-true r n)
 
   -- it has that text: the digit says it
-  pub line-same : (x : ℕ) → not r ≡ false → m < 32 → x ≡ coverAt l k → eqb (x / 2 ^ (m % 32) % 2) 1 ≡ isLineFor l t m k
+  pub line-same : (x : ℕ) → not r ≡ false → m < 32 → x ≡ coverAt v k → eqb (x / 2 ^ (m % 32) % 2) 1 ≡ isLineFor v t m k
   unfolding isLineFor
   line-same x n h e = rw (← here, ← tested, not-false r n, ← e, mod-eq-of-lt h)
 
 -- ---- the lines one after the other
 -- none
-pub join-start : (l : Listing) (t : Text) (m : ℕ) → record { any = false; closed = false; free = false; roles = 0 } ≡ joinedUpTo l t m 0
+pub join-start : (v : View) (t : Text) (m : ℕ) → record { any = false; closed = false; free = false; roles = 0 } ≡ joinedUpTo v t m 0
 unfolding joinedUpTo
-join-start l t m = refl
+join-start v t m = refl
 
-module _ (l : Listing) (t : Text) (m k : ℕ) (j : Joined) (r : Bool) (so-far : j ≡ joinedUpTo l t m k) (tested : r ≡ isLineFor l t m k) where
+module _ (v : View) (t : Text) (m k : ℕ) (j : Joined) (r : Bool) (so-far : j ≡ joinedUpTo v t m k) (tested : r ≡ isLineFor v t m k) where
   -- one more that is not for them
-  pub join-past : r ≡ false → j ≡ joinedUpTo l t m (k + 1)
+  pub join-past : r ≡ false → j ≡ joinedUpTo v t m (k + 1)
   unfolding joinedUpTo
   join-past e = rw (add-one k, ← tested, e) so-far
 
   -- one more that is
-  pub join-takes : (a : Access) (j′ : Joined) → r ≡ true → a ≡ accessAt l k → j′ ≡ joinWith j a → j′ ≡ joinedUpTo l t m (k + 1)
+  pub join-takes : (a : Access) (j′ : Joined) → r ≡ true → a ≡ accessAt v k → j′ ≡ joinWith j a → j′ ≡ joinedUpTo v t m (k + 1)
   unfolding joinedUpTo
   join-takes a j′ e p q = rw (add-one k, ← tested, e, ← so-far, ← p) q
 
 -- all
-pub join-end : (l : Listing) (t : Text) (m k n e : ℕ) (j : Joined) → (j ≡ joinedUpTo l t m k) × (k ≤ n) → n ≤ k → n ≡ e → j ≡ joinedUpTo l t m e
-join-end l t m k n e j i h q = let z : k ≡ e = omega arith in rw (← z) (i .0)
+pub join-end : (v : View) (t : Text) (m k n e : ℕ) (j : Joined) → (j ≡ joinedUpTo v t m k) × (k ≤ n) → n ≤ k → n ≡ e → j ≡ joinedUpTo v t m e
+join-end v t m k n e j i h q = let z : k ≡ e = omega arith in rw (← z) (i .0)
 
 -- ---- the answer
 module _ (j : Joined) (h : Who) where

@@ -4,16 +4,16 @@ use mathlib.Core.List.{[]}
 use lib.ListN.{length, getD}
 use lib.Dec.{eqb}
 use Rattle.text.specs.Texts.{Text, indexOf}
-use Rattle.listings.specs.Listings.{Listing, patternsOf}
-use Rattle.deciding.specs.Strengths.{leading}
+use Rattle.reading.specs.Views.{View, texts}
+use Rattle.matching.specs.Strengths.{leading}
 use Rattle.deciding.specs.Joinings.{joinedUpTo, joinedAnswer}
 use Rattle.decisions.specs.declared.answers.Answer.{Answer}
 use Rattle.decisions.specs.declared.answers.Answer.the-variants.{Open}
-use Rattle.deciding.specs.declared.callers.Who.{Who}
+use Rattle.callers.specs.declared.Who.{Who}
 
 -- the answer by the strongest pattern line, and by the constraints joined for its text
-unfoldable pub answerFor : Listing → Text → Text → Who → Answer
-unfolding leading joinedUpTo joinedAnswer indexOf patternsOf
-answerFor l path m who =
-    cond (eqb (leading (patternsOf l) path .most) 0) Open
-    (joinedAnswer (joinedUpTo l (getD (patternsOf l) (leading (patternsOf l) path .at) []) (indexOf m (l .methods)) (length (patternsOf l))) who)
+unfoldable pub answerFor : View → Text → Text → Who → Answer
+unfolding leading joinedUpTo joinedAnswer indexOf texts
+answerFor v path m who =
+    cond (eqb (leading (texts v) path .most) 0) Open
+    (joinedAnswer (joinedUpTo v (getD (texts v) (leading (texts v) path .at) []) (indexOf m (v .methods)) (length (texts v))) who)

@@ -8,19 +8,19 @@ use mathlib.Core.Option.{some}
 use lib.ListN.{length}
 use Rattle.text.specs.Texts.{Text}
 use Rattle.text.specs.Lines.{linesOf}
-use Rattle.listings.specs.Refusals.{accepted, readingOf}
+use Rattle.listings.specs.Refusals.{accepted, readingOf, report}
 use Rattle.listings.specs.Listings.{listingOf}
 use Rattle.worktable.specs.Work.{workSize, isShort}
 use Rattle.listings.specs.Rules.{rowNumber}
 use Rattle.listings.specs.declared.answers.Fault.{Fault}
 use Rattle.listings.specs.declared.answers.Report.{Report}
-use Rattle.reading.specs.Rows.{report, FirstGiven, FirstBroken}
+use Rattle.reading.specs.Rows.{FirstGiven, FirstBroken}
 use Rattle.reading.specs.Demands.{TableLeft}
 use Rattle.decisions.specs.Requests.{Caller, isPath, isMethod, namesIn, callerOf}
 use Rattle.decisions.specs.Decisions.{decide, isGrant, answerNumber}
 use Rattle.decisions.specs.declared.answers.Answer.{Answer}
 use Rattle.deciding.specs.Outcomes.{answered, isGranted, Asked, asked, requestFor, DecideOutcome}
-use Rattle.deciding.specs.Rows.{decideRows, reportIn}
+use Rattle.deciding.specs.Rows.{decideRows}
 use Rattle.deciding.specs.declared.answers.Decision.{Decision}
 
 -- ---- demand 1
@@ -31,11 +31,11 @@ pub record DefiniteDecision (a : Asked) (w : List ℕ) (d : Decision) (left : Li
   -- any other work table that is long enough gives the same, whatever stands in it
   pub alike : (w′ : List ℕ) (d′ : Decision) (left′ : List ℕ) → workSize ≤ length w → workSize ≤ length w′ → DecideOutcome a w′ d′ left′ → d ≡ d′
   -- number, side and line are those of the first row of 01's table that is given, and no others
-  pub row : (q : Report) → (reportIn d ≡ q) ↔ FirstGiven (decideRows a w) q
+  pub row : (q : Report) → (d .report ≡ q) ↔ FirstGiven (decideRows a w) q
   -- a rule's number, side 1 and line n: exactly where the table is long enough and the listing breaks that rule there first
-  pub rule : (f : Fault) (n : ℕ) → (reportIn d ≡ report (rowNumber f) 1 n) ↔ ((isShort w ≡ false) × FirstBroken (a .listing) f n)
+  pub rule : (f : Fault) (n : ℕ) → (d .report ≡ report (rowNumber f) 1 n) ↔ ((isShort w ≡ false) × FirstBroken (a .listing) f n)
   -- beside a refusal nothing is granted: the answer is 0
-  pub silent : 1 ≤ d .number → (d .answer ≡ 0) × (isGranted d ≡ false)
+  pub silent : 1 ≤ d .report .number → (d .answer ≡ 0) × (isGranted d ≡ false)
   pub table : TableLeft w left
 
 -- whatever is asked and whatever the work table, there is an outcome, and every outcome is definite
@@ -58,12 +58,12 @@ answerFor a c = decide (listingOf (a .listing)) (requestFor a c)
 
 -- nothing is refused, and the answer is no grant
 abbrev pub Denied : Decision → Type 0
-Denied d = (d .number ≡ 0) × (isGranted d ≡ false)
+Denied d = (d .report .number ≡ 0) × (isGranted d ≡ false)
 
 -- what is asked of one outcome
 pub record RightDecision (a : Asked) (w : List ℕ) (d : Decision) : Type 0 where
   -- nothing is refused exactly where a caller asks and no row is given
-  pub heard : (d .number ≡ 0) ↔ ((c : Caller) × Asks a w c)
+  pub heard : (d .report .number ≡ 0) ↔ ((c : Caller) × Asks a w c)
   -- and then the answer is 01's
   pub answer : (c : Caller) → Asks a w c → d ≡ answered (answerNumber (answerFor a c))
   -- so it is a grant exactly where 01's is, and a denial exactly where 01's is
@@ -85,5 +85,5 @@ abbrev pub LoginNeverLoses : Type 0
 LoginNeverLoses =
     (listing path method : Text) (login login′ : ℕ) (names names′ : Text) (w w′ left left′ : List ℕ) (d d′ : Decision)
     → DecideOutcome (asked listing path method login names) w d left → DecideOutcome (asked listing path method login′ names′) w′ d′ left′
-    → login ≤ login′ → NamesAmong names names′ → d′ .number ≡ 0
+    → login ≤ login′ → NamesAmong names names′ → d′ .report .number ≡ 0
     → isGranted d ≡ true → isGranted d′ ≡ true

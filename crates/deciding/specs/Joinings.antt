@@ -6,15 +6,14 @@ use lib.ListN.{getD}
 use lib.Dec.{eqb}
 use lib.Bits.{bitAnd, bitOr}
 use Rattle.text.specs.Texts.{Text, same}
-use Rattle.listings.specs.Listings.{Listing, patternsOf}
-use Rattle.reading.specs.Sets.{digit}
-use Rattle.reading.specs.Views.{coverAt, accessAt}
+use Rattle.entries.specs.Sets.{digit}
+use Rattle.reading.specs.Views.{View, texts, coverAt, accessAt}
 use Rattle.reading.specs.declared.held.Access.{Access}
 use Rattle.reading.specs.declared.held.Access.the-variants.{Open, Closed, ByRole}
 use Rattle.decisions.specs.declared.answers.Answer.{Answer}
 use Rattle.decisions.specs.declared.answers.Answer.the-variants as A
-use Rattle.deciding.specs.declared.callers.Who.{Who}
-use Rattle.deciding.specs.declared.callers.Who.the-variants.{Nobody, Roles}
+use Rattle.callers.specs.declared.Who.{Who}
+use Rattle.callers.specs.declared.Who.the-variants.{Nobody, Roles}
 use Rattle.deciding.specs.declared.joining.Joined.{Joined}
 
 abbrev pub nothingJoined : Joined
@@ -27,15 +26,15 @@ joinWith j Closed = record { any = true; closed = true; free = j .free; roles = 
 joinWith j (ByRole x) = record { any = true; closed = j .closed; free = j .free; roles = bitOr (j .roles) x }
 
 -- pattern line k has that text and covers method m
-unfoldable pub isLineFor : Listing → Text → ℕ → ℕ → Bool
-unfolding same patternsOf coverAt
-isLineFor l t m k = same (getD (patternsOf l) k []) t && eqb (digit m (coverAt l k)) 1
+unfoldable pub isLineFor : View → Text → ℕ → ℕ → Bool
+unfolding same texts coverAt
+isLineFor v t m k = same (getD (texts v) k []) t && eqb (digit m (coverAt v k)) 1
 
 -- the constraints of the first k pattern lines that are taken
-unfoldable pub joinedUpTo : Listing → Text → ℕ → ℕ → Joined
+unfoldable pub joinedUpTo : View → Text → ℕ → ℕ → Joined
 unfolding isLineFor accessAt
-joinedUpTo l t m zero = nothingJoined
-joinedUpTo l t m (suc k) = cond (isLineFor l t m k) (joinWith (joinedUpTo l t m k) (accessAt l k)) (joinedUpTo l t m k)
+joinedUpTo v t m zero = nothingJoined
+joinedUpTo v t m (suc k) = cond (isLineFor v t m k) (joinWith (joinedUpTo v t m k) (accessAt v k)) (joinedUpTo v t m k)
 
 -- by the joined roles
 abbrev pub roleAnswer : ℕ → Who → Answer

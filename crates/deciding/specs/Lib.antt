@@ -3,15 +3,11 @@
 --   Rows       its refusals in plain form, row by row
 --   Demands    what the customer asks, as types over the outcomes
 -- The next are for the proofs alone, and no public statement rests on a reader's believing them:
---   Strengths  the best match by a number for each pattern text
---   Holdings   the caller's roles as a set
 --   Joinings   the answer in numbers and sets
 --   Deciders   what the functions of the call hand to each other
 -- docs/READING.md explains the notation.
 pub mod Outcomes
 pub mod Rows
 pub mod Demands
-pub mod Strengths
-pub mod Holdings
 pub mod Joinings
 pub mod Deciders

@@ -5,7 +5,7 @@ use mathlib.Core.Bool.{Bool, cond}
 use mathlib.Core.List.{List}
 use mathlib.Core.Option.{Option, none, some}
 use Rattle.text.specs.Texts.{Text}
-use Rattle.listings.specs.Refusals.{Reading, accepted, refusal, numberOf, shortTable, badPath, badMethod, badCaller, readingOf}
+use Rattle.listings.specs.Refusals.{Reading, accepted, refusal, numberOf, shortTable, badPath, badMethod, badCaller, readingOf, report}
 use Rattle.listings.specs.Listings.{listingOf}
 use Rattle.worktable.specs.Work.{isShort, workAfter}
 use Rattle.decisions.specs.Requests.{Caller, Request, request, isPath, isMethod, callerOf}
@@ -14,10 +14,10 @@ use Rattle.deciding.specs.declared.answers.Decision.{Decision}
 
 -- a refusal's answer is 0
 abbrev pub refused : ℕ → ℕ → ℕ → Decision
-refused number side line = record { number = number; side = side; line = line; answer = 0 }
+refused number side line = record { report = report number side line; answer = 0 }
 
 abbrev pub answered : ℕ → Decision
-answered a = record { number = 0; side = 0; line = 0; answer = a }
+answered a = record { report = report 0 0 0; answer = a }
 
 -- the answers that are grants, by their numbers
 abbrev pub isGranted : Decision → Bool

@@ -6,7 +6,7 @@ use mathlib.Core.List.{List, [], _∷_}
 use mathlib.Core.Option.{Option, none, some}
 use Rattle.listings.specs.Refusals.{readingOf}
 use Rattle.worktable.specs.Work.{isShort}
-use Rattle.reading.specs.Rows.{report, row, listingRow, lastRow}
+use Rattle.reading.specs.Rows.{row, listingRow, lastRow}
 use Rattle.listings.specs.declared.answers.Report.{Report}
 use Rattle.decisions.specs.Requests.{Caller, isPath, isMethod, callerOf}
 use Rattle.deciding.specs.Outcomes.{Asked}
@@ -26,7 +26,3 @@ decideRows a w =
     ∷ row 13 (isBad (callerOf (a .login) (a .names)))  -- bad "caller"
     ∷ lastRow
     ∷ []
-
--- what is handed back, but for the answer
-abbrev pub reportIn : Decision → Report
-reportIn d = report (d .number) (d .side) (d .line)

@@ -1,9 +1,9 @@
-// What the call hands back.
-// What a call hands back to C: number, side and line are 0 where nothing is refused, and answer is 0 where something is.
+// What deciding hands back.
+use listings::answers::Report;
+
+// To C: the answer is 0 where something is refused.
 #[repr(C)]
 pub struct Decision {
-    pub number: u32,
-    pub side: u32,
-    pub line: u32,
+    pub report: Report,
     pub answer: u32,
 }

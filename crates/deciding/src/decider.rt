@@ -2,49 +2,54 @@
 ghost use mathlib.Core.Path.{_≡_};
 ghost use Prim.Native.Nat.{_≤_};
 ghost use lib.ListN.{length};
-ghost use Rattle.listings.specs.Listings.{listingOf};
 ghost use Rattle.worktable.specs.Work.{zeroed};
 ghost use Rattle.listings.specs.Refusals.{readingOf};
-ghost use Rattle.reading.specs.Room.{listingRoom};
-ghost use Rattle.reading.specs.Holds.{Holds, LoadOutcome};
-ghost use Rattle.deciding.specs.Outcomes.{asked, DecideOutcome, decideListing, decideRequest};
+ghost use Rattle.entries.specs.Room.{listingRoom};
+ghost use Rattle.reading.specs.Holds.{Holds, HoldsListing, LoadOutcome};
+ghost use Rattle.reading.specs.Views.{viewAt};
+ghost use Rattle.deciding.specs.Outcomes.{refused, answered, asked, DecideOutcome, decideListing, decideRequest};
 ghost use Rattle.deciding.specs.Deciders.{answerFor};
 use crate::answers::Decision;
-use crate::callers;
-use crate::callers::Held;
-use crate::callers::Who;
 use crate::joining;
-use crate::matching;
+use callers::Held;
+use callers::Who;
 use decisions::answers;
 use decisions::answers::Answer;
+use entries::tables::Tally;
 use listings::answers::BAD_CALLER;
 use listings::answers::BAD_METHOD;
 use listings::answers::BAD_PATH;
 use listings::answers::SHORT_TABLE;
 use listings::answers::number;
-use listings::names;
 use reading::held;
 use reading::reader;
 use reading::reader::Loaded;
-use reading::tables::Tally;
 use text::bytes;
 
 // A refusal, whose answer is 0.
 pub fn refuse(number: u32, side: u32, line: u32) -> Decision
-    ensures { λ r. ⌜ r ≡ record { number = number; side = side; line = line; answer = 0 } ⌝ }
+    ensures { λ r. ⌜ r ≡ refused number side line ⌝ }
 {
     Decision {
-        number: number,
-        side: side,
-        line: line,
+        report: listings::answers::refuse(number, side, line),
         answer: 0,
+    }
+}
+
+// An answer, by its number.
+pub fn tell(answer: u32) -> Decision
+    ensures { λ r. ⌜ r ≡ answered answer ⌝ }
+{
+    Decision {
+        report: listings::answers::accept(),
+        answer: answer,
     }
 }
 
 // The answer to a caller for a path and a method.
 pub fn answer_for(s: &[u8], w: &[u32], t: Tally, path: &[u8], method: &[u8], who: Who) -> Answer
     requires { ⌜ Holds (now s) t (now w) ⌝ }
-    ensures { λ r. ⌜ r ≡ answerFor (listingOf (now (s .entry))) (now (path .entry)) (now (method .entry)) who ⌝ }
+    ensures { λ r. ⌜ r ≡ answerFor (viewAt (now (s .entry)) t (now (w .entry))) (now (path .entry)) (now (method .entry)) who ⌝ }
 {
     let best = joining::strongest(s, w, t, path);
     let most = best.most;
@@ -67,7 +72,7 @@ pub fn decide_held(
     login: u32,
     names: &[u8],
 ) -> Decision
-    requires { ⌜ Holds (now s) t (now w) ⌝ }
+    requires { ⌜ HoldsListing (now s) t (now w) ⌝ }
     ensures { λ r. ⌜ r ≡ decideRequest (asked (now (s .entry)) (now (path .entry)) (now (method .entry)) login (now (names .entry))) ⌝ }
 {
     let table = bytes::classes();
@@ -82,12 +87,7 @@ pub fn decide_held(
         Held::Bad => refuse(BAD_CALLER, 0, 0),
         Held::Good(who) => {
             let a = answer_for(s, w, t, path, method, who);
-            Decision {
-                number: 0,
-                side: 0,
-                line: 0,
-                answer: answers::number(a),
-            }
+            tell(answers::number(a))
         }
     }
 }

@@ -1,56 +1,24 @@
 // The best pattern, the constraints taken for it, and the answer.
 ghost use mathlib.Core.Path.{_≡_};
 ghost use mathlib.Core.List.{[]};
-ghost use Prim.Native.Nat.{_≤_, _<_};
+ghost use Prim.Native.Nat.{_<_};
 ghost use lib.ListN.{length, getD};
-ghost use Rattle.listings.specs.Listings.{listingOf, patternsOf};
 ghost use Rattle.reading.specs.Holds.{Holds};
-ghost use Rattle.deciding.specs.Strengths.{Ends, lead, leading};
+ghost use Rattle.reading.specs.Views.{texts, viewAt};
+ghost use Rattle.matching.specs.Strengths.{leading};
 ghost use Rattle.deciding.specs.Joinings.{joinWith, isLineFor, joinedUpTo, joinedAnswer};
-use crate::callers::Who;
-use crate::matching;
-use crate::matching::Ending;
+use callers::Who;
 use decisions::answers::Answer;
+use entries::tables::Tally;
+use matching::Leading;
 use reading::held;
 use reading::held::Access;
-use reading::tables::Tally;
 use text::texts;
-
-// While the patterns are gone through: how many are, the line of the first of the strongest, and its strength, 0 where none matches.
-pub struct Leading {
-    pub seen: usize,
-    pub at: usize,
-    pub most: u32,
-}
-
-// The choice with one pattern more, for a path whose ending is e.
-pub fn lead_with(x: Leading, p: &[u8], path: &[u8], e: Ending) -> Leading
-    requires { ⌜ (x .seen < 1000) × ((length (now p) ≤ 255) × Ends (now path) e) ⌝ }
-    ensures { λ r. ⌜ r ≡ lead (now (path .entry)) x (now (p .entry)) ⌝ }
-{
-    let seen = x.seen;
-    let at = x.at;
-    let most = x.most;
-    let next = seen + 1;
-    let strength = matching::strength_of(p, path, e);
-    if most < strength {
-        return Leading {
-            seen: next,
-            at: seen,
-            most: strength,
-        };
-    }
-    Leading {
-        seen: next,
-        at: at,
-        most: most,
-    }
-}
 
 // The strongest of the listing's patterns.
 pub fn strongest(s: &[u8], w: &[u32], t: Tally, path: &[u8]) -> Leading
     requires { ⌜ Holds (now s) t (now w) ⌝ }
-    ensures { λ r. ⌜ r ≡ leading (patternsOf (listingOf (now (s .entry)))) (now (path .entry)) ⌝ }
+    ensures { λ r. ⌜ r ≡ leading (texts (viewAt (now (s .entry)) t (now (w .entry)))) (now (path .entry)) ⌝ }
 {
     let n = held::pattern_count(s, w, t);
     let e = matching::ending_of(path);
@@ -61,7 +29,7 @@ pub fn strongest(s: &[u8], w: &[u32], t: Tally, path: &[u8]) -> Leading
     };
     let mut k = 0;
     while k < n {
-        x = lead_with(x, held::pattern(s, w, t, k), path, e);
+        x = matching::lead_with(x, held::pattern(s, w, t, k), path, e);
         k += 1;
     }
     x
@@ -105,8 +73,8 @@ impl Joined {
 
 // Whether pattern line k has that text, and its collection covers method m, an index into the listing's methods or their number.
 pub fn is_line_for(s: &[u8], w: &[u32], t: Tally, text: &[u8], m: usize, k: usize) -> bool
-    requires { ⌜ Holds (now s) t (now w) × ((m < 32) × (k < length (patternsOf (listingOf (now s))))) ⌝ }
-    ensures { λ r. ⌜ r ≡ isLineFor (listingOf (now (s .entry))) (now (text .entry)) m k ⌝ }
+    requires { ⌜ Holds (now s) t (now w) × ((m < 32) × (k < length (texts (viewAt (now s) t (now w))))) ⌝ }
+    ensures { λ r. ⌜ r ≡ isLineFor (viewAt (now (s .entry)) t (now (w .entry))) (now (text .entry)) m k ⌝ }
 {
     if !texts::are_same(held::pattern(s, w, t, k), text) {
         return false;
@@ -117,7 +85,7 @@ pub fn is_line_for(s: &[u8], w: &[u32], t: Tally, text: &[u8], m: usize, k: usiz
 // What the constraints come to that are taken for that pattern text and method m.
 pub fn join_lines(s: &[u8], w: &[u32], t: Tally, text: &[u8], m: usize) -> Joined
     requires { ⌜ Holds (now s) t (now w) × (m < 32) ⌝ }
-    ensures { λ r. ⌜ r ≡ joinedUpTo (listingOf (now (s .entry))) (now (text .entry)) m (length (patternsOf (listingOf (now (s .entry))))) ⌝ }
+    ensures { λ r. ⌜ r ≡ joinedUpTo (viewAt (now (s .entry)) t (now (w .entry))) (now (text .entry)) m (length (texts (viewAt (now (s .entry)) t (now (w .entry))))) ⌝ }
 {
     let n = held::pattern_count(s, w, t);
     let mut j = Joined {

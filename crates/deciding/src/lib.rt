@@ -1,6 +1,4 @@
 // Deciding one request: the layer above `reading`, and proved from its contracts alone. The crate `decisions` says what is decided.
 pub mod answers; // what is handed back
-pub mod matching; // whether a pattern matches a path, and how strongly
-pub mod callers; // who the caller is, and which of the listing's roles it holds
 pub mod joining; // the best pattern, the constraints taken for it, the answer
 pub mod decider; // the whole call

@@ -11,10 +11,10 @@ use lib.Seq.{take-length, take-append-seam, append-snoc}
 use lib.Dec.{eqb, ltb}
 use borrow.Author.Tests.{le-ltb, ltb-true, ltb-false, eq-eqb, ne-eqb, eqb-true, eqb-false}
 use Rattle.text.specs.Texts.{Text, slash, dot, same, has, startsWith}
-use Rattle.listings.specs.Patterns.{PatternKind, exact, prefix, extension, default, unpermitted, kindOf}
+use Rattle.names.specs.Patterns.{PatternKind, exact, prefix, extension, default, unpermitted, kindOf}
 use Rattle.text.proofs.Truths.{never, and-right, or-left, or-right}
 use Rattle.text.proofs.Spans.{same-equal, same-self}
-use Rattle.listings.proofs.Plainly.{starts-plain, one-text}
+use Rattle.names.proofs.Plainly.{starts-plain, one-text}
 use Rattle.decisions.specs.Matching.{afterLast, lastSegment, hasExtension, isUnder, kindMatches, matches, rank, size, isBetter, IsBest, betterOf, best}
 
 -- ---- "P itself and every path that starts with P followed by `/`"

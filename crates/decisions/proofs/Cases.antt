@@ -5,7 +5,7 @@ use mathlib.Core.Option.{none, some}
 use Rattle.text.specs.Texts.{Text, bytes}
 use Rattle.text.specs.Bytes.{isText}
 use Rattle.listings.specs.Records.{namesRole}
-use Rattle.listings.specs.Names.{isRoleName}
+use Rattle.names.specs.Names.{isRoleName}
 use Rattle.listings.specs.Listings.{listingOf}
 use Rattle.decisions.specs.Requests.{nobody, holder, callerOf}
 use Rattle.decisions.specs.Decisions.{decide}

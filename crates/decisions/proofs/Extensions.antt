@@ -7,10 +7,10 @@ use Prim.Native.Nat.{ℕ}
 use lib.Dec.{eqb}
 use borrow.Author.Tests.{eqb-true}
 use Rattle.text.specs.Texts.{Text, bytes, slash, dot, same, has, startsWith}
-use Rattle.listings.specs.Patterns.{extension}
+use Rattle.names.specs.Patterns.{extension}
 use Rattle.text.proofs.Truths.{never, and-left, and-right, and-both}
 use Rattle.text.proofs.Spans.{same-equal, same-self}
-use Rattle.listings.proofs.Plainly.{starts-plain}
+use Rattle.names.proofs.Plainly.{starts-plain}
 use Rattle.decisions.specs.Matching.{afterLastOr, afterLast, lastSegment, hasExtension, kindMatches, Extended}
 use Rattle.decisions.proofs.Lasts.{last-none, last-behind, has-middle}
 

@@ -9,7 +9,7 @@ use Rattle.text.specs.Texts.{Text, same, run}
 use Rattle.text.proofs.Truths.{never, and-left, and-right, and-both}
 use Rattle.text.proofs.Spans.{same-equal, same-self}
 use Rattle.listings.specs.Listings.{Constrained, Listing, PatternLine, covers, patternLinesOf}
-use Rattle.listings.proofs.Plainly.{member-plain}
+use Rattle.names.proofs.Plainly.{member-plain}
 use Rattle.listings.proofs.Lines.{line-in, line-of}
 use Rattle.decisions.specs.Combining.{Access, join, neutral, together, accessOf}
 use Rattle.decisions.specs.Decisions.{taken, nothingTaken, combine, combinedAt}

@@ -5,7 +5,7 @@ use mathlib.Core.List.{List, [], _∷_, _++_}
 use mathlib.Core.Option.{some}
 use Rattle.text.specs.Texts.{Text, bytes}
 use Rattle.text.proofs.Truths.{never}
-use Rattle.listings.specs.Records.{isStar}
+use Rattle.names.specs.Names.{isStar}
 use Rattle.listings.specs.Listings.{Listing, isEmpty, closes}
 use Rattle.listings.specs.Propers.{Proper}
 use Rattle.decisions.specs.Requests.{Caller, nobody, holder, Extends}

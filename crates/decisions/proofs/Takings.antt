@@ -6,10 +6,10 @@ use mathlib.Core.Logic.{_⊎_, inl, inr, ⊎-elim}
 use mathlib.Core.Option.{Option, none, some}
 use Rattle.text.specs.Texts.{Text, member}
 use Rattle.text.proofs.Truths.{never, and-left, and-right}
-use Rattle.listings.specs.Records.{isStar}
+use Rattle.names.specs.Names.{isStar}
 use Rattle.listings.specs.Listings.{Collected, Constrained, Listing, PatternLine, closes, covers, patternLinesOf}
 use Rattle.listings.specs.Propers.{Proper}
-use Rattle.listings.proofs.Plainly.{member-plain}
+use Rattle.names.proofs.Plainly.{member-plain}
 use Rattle.listings.proofs.Lines.{line-in}
 use Rattle.decisions.specs.Combining.{closed, free, roles, hasRole, rolesOf, accessOf}
 use Rattle.decisions.specs.Decisions.{isTaken, taken, combine, combinedAt}

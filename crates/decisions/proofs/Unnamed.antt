@@ -7,7 +7,7 @@ use Rattle.text.specs.Texts.{Text, member}
 use Rattle.listings.specs.Listings.{Collected, Constrained, Listing, covers, patternsOf}
 use Rattle.listings.specs.Propers.{Proper}
 use Rattle.text.proofs.Truths.{never, not-so}
-use Rattle.listings.proofs.Plainly.{member-plain}
+use Rattle.names.proofs.Plainly.{member-plain}
 use Rattle.listings.proofs.Lines.{line-in}
 use Rattle.decisions.specs.Matching.{best}
 use Rattle.decisions.specs.Combining.{Access, accessOf}

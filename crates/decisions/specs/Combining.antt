@@ -2,7 +2,7 @@
 use mathlib.Core.Bool.{Bool, true, false, cond, _||_}
 use mathlib.Core.List.{List, [], _∷_, _++_}
 use Rattle.text.specs.Texts.{Text, member}
-use Rattle.listings.specs.Records.{isStar}
+use Rattle.names.specs.Names.{isStar}
 use Rattle.listings.specs.Listings.{Constrained, closes}
 
 -- ---- who may

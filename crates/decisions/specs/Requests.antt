@@ -7,7 +7,7 @@ use lib.ListN.{length}
 use lib.Dec.{leb}
 use Rattle.text.specs.Texts.{Text, bytes, all, startsWith}
 use Rattle.text.specs.Bytes.{isText}
-use Rattle.listings.specs.Names.{madeOf, isRoleName, isMethodName}
+use Rattle.names.specs.Names.{madeOf, isRoleName, isMethodName}
 use Rattle.text.specs.Lines.{Line, linesOf}
 
 -- ---- the path and the method

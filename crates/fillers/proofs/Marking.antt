@@ -13,8 +13,8 @@ use lib.Pow.{pow-lt}
 use lib.ListN.{length, getD, set, length-set}
 use lib.Seq.{getD-set-same, getD-set-other}
 use borrow.Author.Tests.{eq-eqb, ne-eqb}
-use Rattle.reading.specs.Sets.{digit}
-use Rattle.reading.proofs.Digits.{digit-set, set-one}
+use Rattle.entries.specs.Sets.{digit}
+use Rattle.entries.proofs.Digits.{digit-set, set-one}
 use Rattle.fillers.specs.Marks.{isMarked, MarkedToo}
 
 -- ---- one number

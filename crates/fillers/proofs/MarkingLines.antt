@@ -1,4 +1,4 @@
--- Marking the numbers of a listing's pattern texts, in a table of which they are a part: two listings in its first 2 n numbers, the marks in the next 2 n.
+-- Marking the numbers of a view's pattern texts, in a table of which it is a part: two views in its first 2 n numbers, the marks in the next 2 n.
 use mathlib.Core.Path.{_≡_, refl, sym, ap, _∙_}
 use mathlib.Core.Bool.{Bool, true, false, not, _&&_, _||_}
 use mathlib.Core.List.{List, [], _∷_, _++_}
@@ -9,9 +9,9 @@ use lib.ListN.{length, take, drop, getD, drop-of-length-le}
 use lib.Seq.{length-take-le, drop-cons, take-take, take-nil, take-at, drop-at}
 use borrow.Rule.Slice.PartMut.{putMid, same-len-mid, mid-len, take-put, drop-put}
 use Rattle.text.specs.Texts.{Text, part}
-use Rattle.listings.specs.Listings.{listingOf, patternsOf}
 use Rattle.reading.specs.Holds.{Holds}
-use Rattle.reading.specs.declared.tables.Tally.{Tally}
+use Rattle.reading.specs.Views.{View, texts, viewAt}
+use Rattle.entries.specs.declared.tables.Tally.{Tally}
 use Rattle.trials.specs.Fillers.{numbered, occurs, absent, fills}
 use Rattle.fillers.specs.Marks.{MarkedToo, within, withinAny}
 use Rattle.fillers.proofs.Marking.{Remaining, marking-starts, marking-ends, marking-turns}
@@ -34,17 +34,34 @@ inside (suc a) n zero w h = absurd (omega arith)
 inside (suc a) n (suc k) [] h = refl
 inside (suc a) n (suc k) (x ∷ xs) h = inside a n k xs (omega arith)
 
--- holds what it held, where they are as before
+-- is as it was, where they are as before
+pub around-part : (n a : ℕ) (before now : List ℕ) → a ≤ n → take (2 * n) now ≡ take (2 * n) before → take n (drop a now) ≡ take n (drop a before)
+around-part n a before now h tables =
+    let m : a + n ≤ 2 * n = omega arith in
+    sym (inside a n (2 * n) now m) ∙ ap (λ (v : List ℕ). take n (drop a v)) tables ∙ inside a n (2 * n) before m
+
+-- so it holds what it held
 pub around-held : (n a : ℕ) (before now : List ℕ) (s : Text) (t : Tally) → a ≤ n → take (2 * n) now ≡ take (2 * n) before → Holds s t (take n (drop a before))
     → Holds s t (take n (drop a now))
-around-held n a before now s t h tables H =
-    let m : a + n ≤ 2 * n = omega arith in
-    let e : take n (drop a now) ≡ take n (drop a before) =
-    sym (inside a n (2 * n) now m) ∙ ap (λ (v : List ℕ). take n (drop a v)) tables ∙ inside a n (2 * n) before m in
-    rw e H
+around-held n a before now s t h tables H = rw (around-part n a before now h tables) H
 
 pub around-holds : (n a : ℕ) (before now : List ℕ) (s : Text) (t : Tally) → a ≤ n → Around n before now → Holds s t (take n (drop a before)) → Holds s t (part a (a + n) now)
 around-holds n a before now s t h A H = let l : a + n - a ≡ n = omega arith in rw l (around-held n a before now s t h (A .tables) H)
+
+around-view : (n a : ℕ) (before now : List ℕ) (s : Text) (t : Tally) → a ≤ n → Around n before now → viewAt s t (part a (a + n) now) ≡ viewAt s t (take n (drop a before))
+around-view n a before now s t h A = let l : a + n - a ≡ n = omega arith in ap (viewAt s t) (rw l (around-part n a before now h (A .tables)))
+
+-- the texts are counted before anything is marked, and read while they are
+pub lines-counted : (n a : ℕ) (w : List ℕ) (s : Text) (t : Tally) (count : ℕ) → a ≤ n → count ≡ length (texts (viewAt s t (part a (a + n) w))) → count ≡ length (texts (viewAt s t (take n (drop a w))))
+lines-counted n a w s t count h e = e ∙ ap (λ (v : View). length (texts v)) (around-view n a w w s t h (record { size = refl; tables = refl; rest = refl }))
+
+pub line-there : (n a : ℕ) (before now : List ℕ) (s : Text) (t : Tally) (k count : ℕ) → Around n before now → count ≡ length (texts (viewAt s t (take n (drop a before)))) → k < count → a ≤ n
+    → k < length (texts (viewAt s t (part a (a + n) now)))
+line-there n a before now s t k count A e l h = rw (around-view n a before now s t h A, ← e) l
+
+pub line-read : (n a : ℕ) (before now : List ℕ) (s : Text) (t : Tally) (k : ℕ) (u : Text) → Around n before now → u ≡ getD (texts (viewAt s t (part a (a + n) now))) k [] → a ≤ n
+    → u ≡ getD (texts (viewAt s t (take n (drop a before)))) k []
+line-read n a before now s t k u A e h = e ∙ ap (λ (v : View). getD (texts v) k []) (around-view n a before now s t h A)
 
 pub around-none : (n : ℕ) (w : List ℕ) → Around n w w
 around-none n w = record { size = refl; tables = refl; rest = refl }

@@ -9,19 +9,18 @@ use lib.ListN.{length, length-append}
 use lib.Dec.{ltb, leb}
 use borrow.Author.Tests.{lt-ltb, le-ltb, le-leb, lt-leb}
 use Rattle.text.specs.Texts.{Text, member, indexOf}
-use Rattle.listings.specs.Listings.{listingOf}
 use Rattle.reading.specs.Holds.{Holds}
-use Rattle.reading.specs.declared.tables.Tally.{Tally}
+use Rattle.reading.specs.Views.{viewAt}
+use Rattle.entries.specs.declared.tables.Tally.{Tally}
 use Rattle.text.proofs.Truths.{never}
 use Rattle.text.proofs.Indices.{index-member}
-use Rattle.listings.proofs.Plainly.{member-append}
-use Rattle.reading.proofs.Accepted.{accepted-proper}
+use Rattle.names.proofs.Plainly.{member-append}
 use Rattle.trials.specs.Fillers.{numbered, firstNumber, isUnnamed}
 use Rattle.trials.proofs.Pigeons.{first-one}
 use Rattle.trials.proofs.FillersExist.{method-is-first}
 
 -- ---- one number: name is `Q` and n, i its place among new's methods, k their number
-module _ (new old : List Text) (n i k : ℕ) (name : Text) (written : name ≡ numbered (81 ∷ []) n) (place : i ≡ indexOf name new) (count : k ≡ length new) where
+module _ (old new : List Text) (n i k : ℕ) (name : Text) (written : name ≡ numbered (81 ∷ []) n) (place : i ≡ indexOf name new) (count : k ≡ length new) where
   -- new names it
   pub named-first : i < k → false ≡ isUnnamed (new ++ old) n
   unfolding isUnnamed
@@ -44,22 +43,22 @@ module _ (new old : List Text) (n i k : ℕ) (name : Text) (written : name ≡ n
           go (no h) = let g : b ≤ a = omega arith in rw (le-ltb a b g) (le-leb b a g)
 
 -- ---- the first of them
-module _ (new old : Text) (tn to : Tally) (wn wo : List ℕ) (N : Holds new tn wn) (O : Holds old to wo) where
+module _ (old new : Text) (to tn : Tally) (wo wn : List ℕ) (O : Holds old to wo) (N : Holds new tn wn) where
   -- the methods of both listings: 62 at most
-  few : length (listingOf new .methods ++ listingOf old .methods) ≤ 62
+  few : length (viewAt new tn wn .methods ++ viewAt old to wo .methods) ≤ 62
   few =
-      let a = accepted-proper new (N .accepts) .few-methods in
-      let b = accepted-proper old (O .accepts) .few-methods in
-      rw (length-append (listingOf new .methods) (listingOf old .methods)) (omega arith)
+      let a = N .proper .few-methods in
+      let b = O .proper .few-methods in
+      rw (length-append (viewAt new tn wn .methods) (viewAt old to wo .methods)) (omega arith)
 
-  module _ (n : ℕ) (before : (i : ℕ) → i < n → isUnnamed (listingOf new .methods ++ listingOf old .methods) i ≡ false) where
+  module _ (n : ℕ) (before : (i : ℕ) → i < n → isUnnamed (viewAt new tn wn .methods ++ viewAt old to wo .methods) i ≡ false) where
     -- the number that is found is the filler method's
-    pub method-found : (b : Bool) → b ≡ isUnnamed (listingOf new .methods ++ listingOf old .methods) n → b ≡ true
-        → n ≡ firstNumber (isUnnamed (listingOf new .methods ++ listingOf old .methods))
+    pub method-found : (b : Bool) → b ≡ isUnnamed (viewAt new tn wn .methods ++ viewAt old to wo .methods) n → b ≡ true
+        → n ≡ firstNumber (isUnnamed (viewAt new tn wn .methods ++ viewAt old to wo .methods))
     method-found b e f = first-one _ n _ (method-is-first _ (omega (arith, few)) .0) (sym e ∙ f) before
 
     -- and one is found below 99
-    pub method-missed : 99 ≤ n → n ≡ firstNumber (isUnnamed (listingOf new .methods ++ listingOf old .methods))
+    pub method-missed : 99 ≤ n → n ≡ firstNumber (isUnnamed (viewAt new tn wn .methods ++ viewAt old to wo .methods))
     method-missed h =
-        let F = method-is-first (listingOf new .methods ++ listingOf old .methods) (omega (arith, few)) in
+        let F = method-is-first (viewAt new tn wn .methods ++ viewAt old to wo .methods) (omega (arith, few)) in
         absurd (never _ (F .0 .passes) (before _ (omega (arith, few, F .1))))

@@ -6,7 +6,7 @@ use mathlib.Core.List.{List}
 use lib.ListN.{length, getD}
 use lib.Dec.{eqb}
 use Rattle.text.specs.Texts.{Text, bytes, startsWith}
-use Rattle.reading.specs.Sets.{digit}
+use Rattle.entries.specs.Sets.{digit}
 use Rattle.writing.specs.Decimals.{digits}
 use Rattle.trials.specs.Fillers.{numbered, occurs, fills}
 

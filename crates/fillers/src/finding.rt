@@ -5,13 +5,13 @@ ghost use mathlib.Core.List.{_++_, _∷_, []};
 ghost use Prim.Native.Nat.{ℕ, _+_, _*_, _≤_, _<_};
 ghost use lib.ListN.{length, take, drop};
 ghost use lib.Dec.{eqb};
-ghost use Rattle.listings.specs.Listings.{listingOf, patternsOf};
 ghost use Rattle.reading.specs.Holds.{Holds};
+ghost use Rattle.reading.specs.Views.{texts, viewAt};
 ghost use Rattle.trials.specs.Fillers.{numbered, firstNumber, fills, isUnnamed};
 ghost use Rattle.fillers.specs.Marks.{MarkedToo, leads, within, withinAny, isMarked};
+use entries::tables::Tally;
 use reading::held;
 use reading::reader;
-use reading::tables::Tally;
 
 // Marks n.
 pub fn mark(marks: &mut [u32], n: usize)
@@ -68,10 +68,10 @@ pub fn mark_text(t: &[u8], marks: &mut [u32])
     }
 }
 
-// Marks them for every pattern text of a listing that the n numbers of w from `from` on hold; the marks stand behind the first 2n.
+// Marks them for every pattern text of the view that the n numbers of w from `from` on hold; the marks stand behind the first 2n.
 pub fn mark_lines(s: &[u8], w: &mut [u32], t: Tally, from: usize, n: usize)
     requires { ⌜ ((n ≡ 1024) × (from ≤ n)) × ((4 * n ≤ length (now w)) × Holds (now s) t (take n (drop from (now w)))) ⌝ }
-    ensures marked { λ _. ⌜ MarkedToo (withinAny (patternsOf (listingOf (now (s .entry))))) (take (2 * n) (drop (2 * n) (now (w .entry)))) (take (2 * n) (drop (2 * n) (now (w .exit)))) ⌝ }
+    ensures marked { λ _. ⌜ MarkedToo (withinAny (texts (viewAt (now (s .entry)) t (take n (drop from (now (w .entry))))))) (take (2 * n) (drop (2 * n) (now (w .entry)))) (take (2 * n) (drop (2 * n) (now (w .exit)))) ⌝ }
     ensures tables { λ _. ⌜ take (2 * n) (now (w .exit)) ≡ take (2 * n) (now (w .entry)) ⌝ }
     ensures rest { λ _. ⌜ drop (4 * n) (now (w .exit)) ≡ drop (4 * n) (now (w .entry)) ⌝ }
     ensures size { λ _. ⌜ length (now (w .exit)) ≡ length (now (w .entry)) ⌝ }
@@ -107,7 +107,7 @@ pub fn first_unmarked(marks: &[u32]) -> usize
 // The number of the filler. w holds old in its first n numbers and new in the next n; the 2n behind them are used.
 pub fn filler_number(old: &[u8], to: Tally, new: &[u8], tn: Tally, w: &mut [u32], n: usize) -> usize
     requires { ⌜ ((n ≡ 1024) × (4 * n ≤ length (now w))) × (Holds (now old) to (take n (now w)) × Holds (now new) tn (take n (drop n (now w)))) ⌝ }
-    ensures number { λ r. ⌜ r ≡ firstNumber (fills (patternsOf (listingOf (now (new .entry))) ++ patternsOf (listingOf (now (old .entry))))) ⌝ }
+    ensures number { λ r. ⌜ r ≡ firstNumber (fills (texts (viewAt (now (new .entry)) tn (take n (drop n (now (w .entry))))) ++ texts (viewAt (now (old .entry)) to (take n (now (w .entry)))))) ⌝ }
     ensures small { λ r. ⌜ r < 65536 ⌝ }
     ensures tables { λ _. ⌜ take (2 * n) (now (w .exit)) ≡ take (2 * n) (now (w .entry)) ⌝ }
     ensures rest { λ _. ⌜ drop (4 * n) (now (w .exit)) ≡ drop (4 * n) (now (w .entry)) ⌝ }
@@ -141,8 +141,8 @@ pub fn is_unnamed(
     tn: Tally,
     n: usize,
 ) -> bool
-    requires { ⌜ Holds (now new) tn (now wn) × Holds (now old) to (now wo) ⌝ }
-    ensures { λ r. ⌜ r ≡ isUnnamed (listingOf (now (new .entry)) .methods ++ listingOf (now (old .entry)) .methods) n ⌝ }
+    requires { ⌜ Holds (now old) to (now wo) × Holds (now new) tn (now wn) ⌝ }
+    ensures { λ r. ⌜ r ≡ isUnnamed (viewAt (now (new .entry)) tn (now (wn .entry)) .methods ++ viewAt (now (old .entry)) to (now (wo .entry)) .methods) n ⌝ }
 {
     let mut name = [0; 8];
     let size = put_name(&mut name, b'Q', n);
@@ -156,8 +156,8 @@ pub fn is_unnamed(
 
 // The number of the filler method.
 pub fn method_number(old: &[u8], wo: &[u32], to: Tally, new: &[u8], wn: &[u32], tn: Tally) -> usize
-    requires { ⌜ Holds (now new) tn (now wn) × Holds (now old) to (now wo) ⌝ }
-    ensures { λ r. ⌜ (r ≡ firstNumber (isUnnamed (listingOf (now (new .entry)) .methods ++ listingOf (now (old .entry)) .methods))) × (r < 100) ⌝ }
+    requires { ⌜ Holds (now old) to (now wo) × Holds (now new) tn (now wn) ⌝ }
+    ensures { λ r. ⌜ (r ≡ firstNumber (isUnnamed (viewAt (now (new .entry)) tn (now (wn .entry)) .methods ++ viewAt (now (old .entry)) to (now (wo .entry)) .methods))) × (r < 100) ⌝ }
 {
     let mut n = 0;
     while n < 99 {

@@ -13,21 +13,19 @@ use lib.Dec.{eqb, ltb}
 use lib.Bits.{bitOr, or-shr, or-mod}
 use borrow.Author.Tests.{lt-ltb, le-ltb}
 use Rattle.text.specs.Texts.{Text, same, run, indexOf}
-use Rattle.listings.specs.Listings.{Listing, patternsOf}
-use Rattle.reading.specs.Sets.{digit}
-use Rattle.reading.specs.Views.{coverAt, accessAt}
+use Rattle.entries.specs.Sets.{digit}
+use Rattle.reading.specs.Views.{View, texts, coverAt, accessAt}
 use Rattle.reading.specs.declared.held.Access.{Access}
 use Rattle.reading.specs.declared.held.Access.the-variants.{Open, Closed, ByRole}
 use Rattle.text.proofs.Truths.{not-so}
 use Rattle.text.proofs.Spans.{same-equal, same-self}
-use Rattle.text.proofs.Indices.{index-here, index-bound}
-use Rattle.reading.proofs.Digits.{set-same, set-or, set-none}
+use Rattle.text.proofs.Indices.{index-here, index-bound, run-step}
+use Rattle.entries.proofs.Digits.{set-same, set-or, set-none}
 use Rattle.deciding.specs.Joinings.{nothingJoined, joinWith, isLineFor, joinedUpTo}
-use Rattle.deciding.specs.Strengths.{strength, startLeading, lead, leading}
+use Rattle.matching.specs.Strengths.{strength, startLeading, lead, leading}
 use Rattle.deciding.specs.declared.joining.Joined.{Joined}
-use Rattle.deciding.specs.declared.joining.Leading.{Leading}
-use Rattle.deciding.proofs.Strengths.{leads, at-listed, lead-past, lead-takes}
-use Rattle.text.proofs.Indices.{run-step}
+use Rattle.matching.specs.declared.Leading.{Leading}
+use Rattle.matching.proofs.Strengths.{leads, at-listed, lead-past, lead-takes}
 use Rattle.grants.specs.Sides.{renumbered, seenJoined, accessMark, accessRoles, gapAt, SideOf, accessFrom, accessIn, joinedAlong}
 
 -- ---- sets of roles in other numbers
@@ -83,85 +81,85 @@ index-before t (u ∷ us) j h = go (same u t) refl j h (index-before t us)
     go false e (suc j) h again = again j (omega arith)
 
 -- ---- along the lines with one text
-module _ (ns : List Text) (l : Listing) (side : List ℕ) (S : SideOf ns l side) (t : Text) (m : ℕ) where
+module _ (ns : List Text) (v : View) (side : List ℕ) (S : SideOf ns v side) (t : Text) (m : ℕ) where
   -- lines with other texts change nothing
-  joined-over : (k d : ℕ) → ((j : ℕ) → j < d → same (getD (patternsOf l) (k + j) []) t ≡ false) → joinedUpTo l t m (k + d) ≡ joinedUpTo l t m k
+  joined-over : (k d : ℕ) → ((j : ℕ) → j < d → same (getD (texts v) (k + j) []) t ≡ false) → joinedUpTo v t m (k + d) ≡ joinedUpTo v t m k
   unfolding joinedUpTo isLineFor
-  joined-over k zero h = ap (joinedUpTo l t m) (add-zero k)
+  joined-over k zero h = ap (joinedUpTo v t m) (add-zero k)
   joined-over k (suc d) h =
-      ap (joinedUpTo l t m) (add-suc k d)
-      ∙ ap (λ (b : Bool). cond (b && eqb (digit m (coverAt l (k + d))) 1) (joinWith (joinedUpTo l t m (k + d)) (accessAt l (k + d))) (joinedUpTo l t m (k + d)))
+      ap (joinedUpTo v t m) (add-suc k d)
+      ∙ ap (λ (b : Bool). cond (b && eqb (digit m (coverAt v (k + d))) 1) (joinWith (joinedUpTo v t m (k + d)) (accessAt v (k + d))) (joinedUpTo v t m (k + d)))
       (h d (omega arith))
       ∙ joined-over k d (λ j i. h j (omega arith))
 
   -- what the table joins for a line is what the line says
-  joined-one : (j : Joined) (a : Access) → joinWith (seenJoined ns l j) (accessFrom (accessMark a) (renumbered ns (l .roles) (accessRoles a))) ≡ seenJoined ns l (joinWith j a)
+  joined-one : (j : Joined) (a : Access) → joinWith (seenJoined ns v j) (accessFrom (accessMark a) (renumbered ns (v .roles) (accessRoles a))) ≡ seenJoined ns v (joinWith j a)
   joined-one j Open = refl
   joined-one j Closed = refl
   joined-one j (ByRole x) =
-      ap (λ (y : ℕ). record { any = true; closed = j .closed; free = j .free; roles = y }) (renumbered-or ns (l .roles) (j .roles) x)
+      ap (λ (y : ℕ). record { any = true; closed = j .closed; free = j .free; roles = y }) (renumbered-or ns (v .roles) (j .roles) x)
 
   -- a line with the text
-  joined-step : (k : ℕ) → k < length (patternsOf l) → getD (patternsOf l) k [] ≡ t
-      → cond (eqb (digit m (getD side k 0)) 1) (joinWith (seenJoined ns l (joinedUpTo l t m k)) (accessIn side k)) (seenJoined ns l (joinedUpTo l t m k))
-      ≡ seenJoined ns l (joinedUpTo l t m (k + 1))
+  joined-step : (k : ℕ) → k < length (texts v) → getD (texts v) k [] ≡ t
+      → cond (eqb (digit m (getD side k 0)) 1) (joinWith (seenJoined ns v (joinedUpTo v t m k)) (accessIn side k)) (seenJoined ns v (joinedUpTo v t m k))
+      ≡ seenJoined ns v (joinedUpTo v t m (k + 1))
   unfolding joinedUpTo isLineFor
   joined-step k h e =
-      rw (add-one k, S .lines k h .cover, S .lines k h .mark, S .lines k h .roles, e, same-self t) (go (eqb (digit m (coverAt l k)) 1))
+      rw (add-one k, S .lines k h .cover, S .lines k h .mark, S .lines k h .roles, e, same-self t) (go (eqb (digit m (coverAt v k)) 1))
     where
       j : Joined
-      j = joinedUpTo l t m k
+      j = joinedUpTo v t m k
 
-      go : (b : Bool) → cond b (joinWith (seenJoined ns l j) (accessFrom (accessMark (accessAt l k)) (renumbered ns (l .roles) (accessRoles (accessAt l k))))) (seenJoined ns l j)
-          ≡ seenJoined ns l (cond b (joinWith j (accessAt l k)) j)
-      go true = joined-one j (accessAt l k)
+      go : (b : Bool) → cond b (joinWith (seenJoined ns v j) (accessFrom (accessMark (accessAt v k)) (renumbered ns (v .roles) (accessRoles (accessAt v k))))) (seenJoined ns v j)
+          ≡ seenJoined ns v (cond b (joinWith j (accessAt v k)) j)
+      go true = joined-one j (accessAt v k)
       go false = refl
 
   -- from one line with the text to the next, to the end
-  along : (f k : ℕ) → k ≤ length (patternsOf l) → length (patternsOf l) ≤ f + k → (k < length (patternsOf l) → getD (patternsOf l) k [] ≡ t)
-      → joinedAlong f side (length (patternsOf l)) m k (seenJoined ns l (joinedUpTo l t m k)) ≡ seenJoined ns l (joinedUpTo l t m (length (patternsOf l)))
+  along : (f k : ℕ) → k ≤ length (texts v) → length (texts v) ≤ f + k → (k < length (texts v) → getD (texts v) k [] ≡ t)
+      → joinedAlong f side (length (texts v)) m k (seenJoined ns v (joinedUpTo v t m k)) ≡ seenJoined ns v (joinedUpTo v t m (length (texts v)))
   unfolding joinedAlong gapAt
-  along zero k a b here = ap (λ (x : ℕ). seenJoined ns l (joinedUpTo l t m x)) (omega arith)
-  along (suc f) k a b here = go (decLt k (length (patternsOf l))) (along f)
+  along zero k a b here = ap (λ (x : ℕ). seenJoined ns v (joinedUpTo v t m x)) (omega arith)
+  along (suc f) k a b here = go (decLt k (length (texts v))) (along f)
     where
       n : ℕ
-      n = length (patternsOf l)
+      n = length (texts v)
 
       -- the rest behind line k, and where the text stands in it
       rest : List Text
-      rest = drop (k + 1) (patternsOf l)
+      rest = drop (k + 1) (texts v)
 
       next : ℕ
       next = k + 1 + indexOf t rest
 
-      go : Dec (k < n) → ((i : ℕ) → i ≤ n → n ≤ f + i → (i < n → getD (patternsOf l) i [] ≡ t)
-          → joinedAlong f side n m i (seenJoined ns l (joinedUpTo l t m i)) ≡ seenJoined ns l (joinedUpTo l t m n))
-          → joinedAlong (suc f) side n m k (seenJoined ns l (joinedUpTo l t m k)) ≡ seenJoined ns l (joinedUpTo l t m n)
-      go (no h) again = rw (le-ltb k n (omega arith)) (ap (λ (x : ℕ). seenJoined ns l (joinedUpTo l t m x)) (omega arith))
+      go : Dec (k < n) → ((i : ℕ) → i ≤ n → n ≤ f + i → (i < n → getD (texts v) i [] ≡ t)
+          → joinedAlong f side n m i (seenJoined ns v (joinedUpTo v t m i)) ≡ seenJoined ns v (joinedUpTo v t m n))
+          → joinedAlong (suc f) side n m k (seenJoined ns v (joinedUpTo v t m k)) ≡ seenJoined ns v (joinedUpTo v t m n)
+      go (no h) again = rw (le-ltb k n (omega arith)) (ap (λ (x : ℕ). seenJoined ns v (joinedUpTo v t m x)) (omega arith))
       go (yes h) again =
-          let size : length rest ≡ n - (k + 1) = length-drop (k + 1) (patternsOf l) in
+          let size : length rest ≡ n - (k + 1) = length-drop (k + 1) (texts v) in
           let gap : getD side (384 + k) 0 ≡ indexOf t rest = S .lines k h .gap ∙ ap (λ (u : Text). indexOf u rest) (here h) in
           rw (lt-ltb k n h)
           (ap₂ (λ (x : ℕ) (j : Joined). joinedAlong f side n m (k + 1 + x) j) gap (joined-step k h (here h))
-          ∙ ap (λ (j : Joined). joinedAlong f side n m next (seenJoined ns l j))
-          (sym (joined-over (k + 1) (indexOf t rest) (λ j i. ap (λ (u : Text). same u t) (sym (getD-drop (k + 1) (patternsOf l) j [])) ∙ index-before t rest j i)))
+          ∙ ap (λ (j : Joined). joinedAlong f side n m next (seenJoined ns v j))
+          (sym (joined-over (k + 1) (indexOf t rest) (λ j i. ap (λ (u : Text). same u t) (sym (getD-drop (k + 1) (texts v) j [])) ∙ index-before t rest j i)))
           ∙ again next (omega (arith, index-bound t rest)) (omega arith)
-          (λ i. sym (getD-drop (k + 1) (patternsOf l) (indexOf t rest) []) ∙ index-here t rest (omega arith)))
+          (λ i. sym (getD-drop (k + 1) (texts v) (indexOf t rest) []) ∙ index-here t rest (omega arith)))
 
   -- from the first line with the text
-  pub along-first : (k : ℕ) → k < length (patternsOf l) → getD (patternsOf l) k [] ≡ t → ((j : ℕ) → j < k → same (getD (patternsOf l) j []) t ≡ false)
-      → joinedAlong (length (patternsOf l)) side (length (patternsOf l)) m k nothingJoined ≡ seenJoined ns l (joinedUpTo l t m (length (patternsOf l)))
+  pub along-first : (k : ℕ) → k < length (texts v) → getD (texts v) k [] ≡ t → ((j : ℕ) → j < k → same (getD (texts v) j []) t ≡ false)
+      → joinedAlong (length (texts v)) side (length (texts v)) m k nothingJoined ≡ seenJoined ns v (joinedUpTo v t m (length (texts v)))
   unfolding joinedUpTo
-  along-first k h here others = ap (joinedAlong n side n m k) (start ∙ ap (seenJoined ns l) (sym before)) ∙ along n k (omega arith) (omega arith) (λ i. here)
+  along-first k h here others = ap (joinedAlong n side n m k) (start ∙ ap (seenJoined ns v) (sym before)) ∙ along n k (omega arith) (omega arith) (λ i. here)
     where
       n : ℕ
-      n = length (patternsOf l)
+      n = length (texts v)
 
-      before : joinedUpTo l t m k ≡ nothingJoined
-      before = ap (joinedUpTo l t m) (sym (zero-add k)) ∙ joined-over 0 k (λ j i. ap (λ (x : ℕ). same (getD (patternsOf l) x []) t) (zero-add j) ∙ others j i)
+      before : joinedUpTo v t m k ≡ nothingJoined
+      before = ap (joinedUpTo v t m) (sym (zero-add k)) ∙ joined-over 0 k (λ j i. ap (λ (x : ℕ). same (getD (texts v) x []) t) (zero-add j) ∙ others j i)
 
-      start : nothingJoined ≡ seenJoined ns l nothingJoined
-      start = ap (λ (x : ℕ). record { any = false; closed = false; free = false; roles = x }) (sym (renumbered-none ns (l .roles)))
+      start : nothingJoined ≡ seenJoined ns v nothingJoined
+      start = ap (λ (x : ℕ). record { any = false; closed = false; free = false; roles = x }) (sym (renumbered-none ns (v .roles)))
 
 -- ---- the line of the best match is the first with its text
 module _ (ts : List Text) (path : Text) where

@@ -11,9 +11,9 @@ use borrow.Author.Tests.{ne-eqb, not-true}
 use lib.Bits.{bitAnd}
 use lib.Count.{under, trailingZeros}
 use Rattle.text.specs.Texts.{Text, first}
-use Rattle.reading.specs.Sets.{setOf}
+use Rattle.entries.specs.Sets.{setOf}
 use Rattle.text.proofs.Truths.{never, not-so, and-left, and-right, and-both}
-use Rattle.reading.proofs.Digits.{set-none, set-and, set-not}
+use Rattle.entries.proofs.Digits.{set-none, set-and, set-not}
 use Rattle.decisions.specs.Requests.{Caller, nobody, holder}
 use Rattle.decisions.specs.Combining.{Access, closed, free, roles, anyOf, hasRole}
 use Rattle.decisions.specs.Decisions.{answerTo, may}
@@ -94,12 +94,12 @@ module _ (ns : List Text) (few : length ns ≤ 32) where
 
   -- ---- whom the one grants and the other does not
   module _ (a b : Access) where
-    callers-fresh : bitAnd (seenBy ns a) (everyone - seenBy ns b) ≡ setOf 64 (λ i. isFresh a b (callerAt ns i))
+    callers-fresh : bitAnd (seenBy ns a) (everyone - seenBy ns b) ≡ setOf 64 (λ i. isFresh b a (callerAt ns i))
     unfolding isFresh
     callers-fresh = ap (bitAnd (seenBy ns a)) (set-not 64 (grantsTo ns b)) ∙ set-and 64 (grantsTo ns a) (λ i. not (grantsTo ns b i))
 
     -- one who is not logged in is so, where another is and the one grants him too: old denies him, since a grant is never lost
-    nobody-fresh : (c : Caller) → (may a c ≡ true → may a nobody ≡ true) → isFresh a b c ≡ true → isFresh a b nobody ≡ true
+    nobody-fresh : (c : Caller) → (may a c ≡ true → may a nobody ≡ true) → isFresh b a c ≡ true → isFresh b a nobody ≡ true
     unfolding isFresh
     nobody-fresh c h e =
         and-both (may a nobody) (not (may b nobody)) (h (and-left (may a c) (not (may b c)) e))
@@ -120,11 +120,11 @@ module _ (ns : List Text) (few : length ns ≤ 32) where
 
   -- the first of them is where the trailing zeros end
   pub caller-by-sets : (a b : Access) → hasRole a [] ≡ false → (x : ℕ) → x ≡ bitAnd (seenBy ns a) (everyone - seenBy ns b)
-      → cond (eqb x 0) none (some (callerAt ns (trailingZeros 64 x))) ≡ first (isFresh a b) (callersWith ns)
+      → cond (eqb x 0) none (some (callerAt ns (trailingZeros 64 x))) ≡ first (isFresh b a) (callersWith ns)
   caller-by-sets a b unnamed x e =
       ap (λ (y : ℕ). cond (eqb y 0) none (some (callerAt ns (trailingZeros 64 y)))) (e ∙ callers-fresh a b)
       ∙ ap (λ (i : ℕ). cond (eqb (setOf 64 f) 0) none (some (callerAt ns i))) (trailing-set 64 f)
-      ∙ caller-first (isFresh a b) (nobody-fresh a b (holder []) (without-role a)) (nobody-fresh a b (one []) (without-name a unnamed))
+      ∙ caller-first (isFresh b a) (nobody-fresh a b (holder []) (without-role a)) (nobody-fresh a b (one []) (without-name a unnamed))
     where
       f : ℕ → Bool
-      f i = isFresh a b (callerAt ns i)
+      f i = isFresh b a (callerAt ns i)

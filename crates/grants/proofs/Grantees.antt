@@ -3,7 +3,7 @@ use mathlib.Core.Path.{_≡_, refl, sym, ap, _∙_}
 use mathlib.Core.Bool.{Bool, true, false, not, cond, _&&_, or-false}
 use mathlib.Core.List.{List, [], _∷_}
 use mathlib.Core.Option.{none, some}
-use Prim.Native.Nat.{ℕ, zero, suc, _+_, _*_, _%_, _^_, _≤_, _<_}
+use Prim.Native.Nat.{ℕ, zero, suc, _+_, _-_, _*_, _%_, _^_, _≤_, _<_}
 use native.Mathlib.Nat.{zero-add, suc-add, pow-suc, mod-eq-of-lt}
 use native.Mathlib.Numerals.{add-one}
 use native.Mathlib.Omega.{arith}
@@ -12,13 +12,15 @@ use lib.ListN.{length, getD, List·getD-eq-default}
 use lib.Dec.{eqb, ltb}
 use borrow.Author.Tests.{lt-ltb, le-ltb, eqb-false}
 use Rattle.text.specs.Texts.{Text, member, indexOf}
-use Rattle.listings.specs.Names.{isRoleName}
+use Rattle.names.specs.Names.{isRoleName}
 use Rattle.listings.specs.Listings.{Listing, patternsOf}
 use Rattle.listings.specs.Propers.{Proper}
-use Rattle.reading.specs.Sets.{setOf, digit}
+use Rattle.entries.specs.Sets.{setOf, digit}
+use Rattle.reading.specs.Views.{texts, viewOf}
 use Rattle.text.proofs.Truths.{never, not-so}
 use Rattle.text.proofs.Indices.{index-member, index-here}
-use Rattle.reading.proofs.Digits.{set-same, set-none, digit-set}
+use Rattle.entries.proofs.Digits.{set-same, set-none, digit-set}
+use Rattle.reading.proofs.Viewings.{texts-of}
 use Rattle.decisions.specs.Matching.{best}
 use Rattle.decisions.specs.Combining.{Access, closed, free, roles, anyOf}
 use Rattle.decisions.specs.Decisions.{nothingTaken, combinedAt, combinedFor, answerTo, may}
@@ -26,10 +28,10 @@ use Rattle.decisions.specs.Gatherings.{gathered}
 use Rattle.decisions.proofs.Gatherings.{gathered-combined}
 use Rattle.decisions.proofs.Promises.{roles-grant}
 use Rattle.deciding.specs.Joinings.{joinedUpTo}
-use Rattle.deciding.specs.Strengths.{leading, bestLine}
+use Rattle.matching.specs.Strengths.{leading, bestLine}
 use Rattle.deciding.specs.declared.joining.Joined.{Joined}
-use Rattle.deciding.specs.declared.joining.Leading.{Leading}
-use Rattle.deciding.proofs.Strengths.{leads, best-line-some, best-line-none}
+use Rattle.matching.specs.declared.Leading.{Leading}
+use Rattle.matching.proofs.Strengths.{leads, best-line-some, best-line-none}
 use Rattle.deciding.proofs.Joins.{Shows, Listed, agree-all, rolesThat}
 use Rattle.trials.specs.Trials.{one}
 use Rattle.grants.specs.Sides.{placeOf, callerAt, everyone, renumbered, granted, seenJoined, SideOf, grantsIn}
@@ -59,6 +61,18 @@ set-more : (k j : ℕ) (f : ℕ → Bool) → ((i : ℕ) → k ≤ i → f i ≡
 unfolding setOf
 set-more zero j f h = ap (λ (n : ℕ). setOf n f) (zero-add j) ∙ set-none j f (λ i. h i (omega arith))
 set-more (suc k) j f h = ap (λ (n : ℕ). setOf n f) (suc-add k j) ∙ ap (λ (x : ℕ). cond (f 0) 1 0 + 2 * x) (set-more k j (λ i. f (suc i)) (λ i q. h (suc i) (omega arith)))
+
+-- a set in the numbers of ns is below 2 ^ their number
+pub renumbered-below : (ns os : List Text) → length ns ≤ 32 → (x : ℕ) → renumbered ns os x < 2 ^ length ns
+unfolding renumbered
+renumbered-below ns os h x =
+    let e : length ns + (32 - length ns) ≡ 32 = omega arith in
+    let z : setOf 32 test ≡ setOf (length ns) test =
+    ap (λ (k : ℕ). setOf k test) (sym e) ∙ set-more (length ns) (32 - length ns) test (λ i l. rw (le-ltb i (length ns) l)) in
+    omega (arith, set-below (length ns) test)
+  where
+    test : ℕ → Bool
+    test i = ltb i (length ns) && (ltb (indexOf (getD ns i []) os) (length os) && eqb (digit (indexOf (getD ns i []) os) x) 1)
 
 -- each member one higher
 set-shift : (k : ℕ) (f : ℕ → Bool) → f 0 ≡ false → setOf (suc k) f ≡ 2 * setOf k (λ i. f (suc i))
@@ -158,12 +172,12 @@ module _ (ns : List Text) (few : length ns ≤ 32) (l : Listing) (P : Proper l) 
   shows-grants j (roles f) s = rw (s .0, s .1, s .2) (roles-joined f (s .3))
 
   -- so it grants whom the constraints taken grant
-  granted-at : (t m : Text) → granted (seenJoined ns l (joinedUpTo l t (indexOf m (l .methods)) (length (patternsOf l)))) ≡ seenBy ns (combinedAt l (some t) m)
-  unfolding granted
+  granted-at : (t m : Text) → granted (seenJoined ns (viewOf l) (joinedUpTo (viewOf l) t (indexOf m (l .methods)) (length (patternsOf l)))) ≡ seenBy ns (combinedAt l (some t) m)
+  unfolding granted viewOf
   granted-at t m = let A = agree-all l P t m in rw (A .0, gathered-combined l t m) (go (gathered l t m .any) (A .1))
     where
       j : Joined
-      j = joinedUpTo l t (indexOf m (l .methods)) (length (patternsOf l))
+      j = joinedUpTo (viewOf l) t (indexOf m (l .methods)) (length (patternsOf l))
 
       go : (b : Bool) → Shows l j (gathered l t m .sum)
           → cond (not b) everyone (cond (j .closed) 0 (cond (j .free) everyone (4 * (renumbered ns (l .roles) (j .roles) % 4294967296))))
@@ -172,7 +186,7 @@ module _ (ns : List Text) (few : length ns ≤ 32) (l : Listing) (P : Proper l) 
       go false s = seen-free ns
 
   -- ---- at the place of a path the table grants whom the listing grants
-  module _ (side : List ℕ) (S : SideOf ns l side) (p m : Text) where
+  module _ (side : List ℕ) (S : SideOf ns (viewOf l) side) (p m : Text) where
     abbrev x : Leading
     x = leading (patternsOf l) p
 
@@ -185,9 +199,9 @@ module _ (ns : List Text) (few : length ns ≤ 32) (l : Listing) (P : Proper l) 
     by-place false e =
         let b : best (patternsOf l) p ≡ some (getD (patternsOf l) (x .at) []) = best-line-some (patternsOf l) p (P .short-patterns) (x .at) (rw e) in
         let n = eqb-false (x .most) 0 e in
+        let along = rw (texts-of l) at (along-first ns (viewOf l) side S (getD (patternsOf l) (x .at) []) (indexOf m (l .methods)) (x .at)) in
         rw (add-one (x .at), b)
-        (ap granted (along-first ns l side S (getD (patternsOf l) (x .at) []) (indexOf m (l .methods)) (x .at) (leads (patternsOf l) p .leader (omega arith) .0) refl
-        (leader-first (patternsOf l) p (omega arith)))
+        (ap granted (along (leads (patternsOf l) p .leader (omega arith) .0) refl (leader-first (patternsOf l) p (omega arith)))
         ∙ granted-at (getD (patternsOf l) (x .at) []) m)
 
     pub grants-place : (a : ℕ) → a ≡ placeOf l p → grantsIn side (length (patternsOf l)) a (indexOf m (l .methods)) ≡ seenBy ns (combinedFor l p m)

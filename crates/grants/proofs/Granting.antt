@@ -9,7 +9,7 @@ use lib.ListN.{length, getD, set}
 use lib.Dec.{eqb, ltb}
 use lib.Bits.{bitOr, or-step, or-shr, or-mod, or-zero-r}
 use borrow.Author.Tests.{lt-ltb, le-ltb, ne-eqb}
-use Rattle.reading.specs.Sets.{digit}
+use Rattle.entries.specs.Sets.{digit}
 use Rattle.deciding.specs.Joinings.{nothingJoined, joinWith}
 use Rattle.deciding.specs.declared.joining.Joined.{Joined}
 use Rattle.grants.specs.Sides.{everyone, accessFrom, accessIn, joinedAlong, granted, grantsIn, listed, rowIn}

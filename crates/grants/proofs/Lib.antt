@@ -3,6 +3,7 @@
 --   Grantees        the table grants at a path's place whom the listing grants there
 --   FreshRoles      the first caller, by sets
 --   Grants          what two places come to is what the listings come to
+--   Showables       whoever is caught may be shown, of any two views
 --   OwnStems        the best line of a pattern's own stem
 --   Stems           the best line of a stem is that of its trial path
 -- The code, module by module:
@@ -14,6 +15,7 @@ pub mod Grantees
 pub mod FreshRoles
 pub mod Stores
 pub mod Grants
+pub mod Showables
 pub mod OwnStems
 pub mod Stems
 pub mod Granting

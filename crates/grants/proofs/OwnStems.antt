@@ -9,13 +9,13 @@ use lib.ListN.{length, length-append}
 use lib.Dec.{ltb}
 use borrow.Author.Tests.{lt-ltb, le-ltb, le-leb, ne-eqb}
 use Rattle.text.specs.Texts.{Text, bytes, slash, same, member, indexOf, run}
-use Rattle.listings.specs.Patterns.{PatternKind, exact, prefix, extension, default, unpermitted, kindOf, Shape}
+use Rattle.names.specs.Patterns.{PatternKind, exact, prefix, extension, default, unpermitted, kindOf, Shape}
 use Rattle.text.proofs.Truths.{never}
 use Rattle.text.proofs.Spans.{same-equal, same-self}
-use Rattle.listings.proofs.Plainly.{shape, one-text}
+use Rattle.names.proofs.Plainly.{shape, one-text}
 use Rattle.decisions.specs.Matching.{isUnder, hasExtension, kindMatches}
-use Rattle.deciding.specs.Strengths.{kindStrength, strength, startLeading, leadBy}
-use Rattle.deciding.specs.declared.joining.Leading.{Leading}
+use Rattle.matching.specs.Strengths.{kindStrength, strength, startLeading, leadBy}
+use Rattle.matching.specs.declared.Leading.{Leading}
 use Rattle.decisions.proofs.Bests.{under-plain}
 use Rattle.grants.specs.Scratch.{placed, belowStrength, stemStrength, leadingBy, stemPlace}
 

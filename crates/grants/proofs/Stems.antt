@@ -9,12 +9,12 @@ use lib.ListN.{length}
 use lib.Dec.{eqb, ltb, leb}
 use borrow.Author.Tests.{le-leb, lt-leb, leb-true, eq-eqb, ne-eqb, eqb-true}
 use Rattle.text.specs.Texts.{Text, bytes, slash, dot, same, has, startsWith, run}
-use Rattle.listings.specs.Patterns.{PatternKind, exact, prefix, extension, default, unpermitted, kindOf, isPermitted, Shape}
+use Rattle.names.specs.Patterns.{PatternKind, exact, prefix, extension, default, unpermitted, kindOf, isPermitted, Shape}
 use Rattle.text.proofs.Truths.{never}
-use Rattle.listings.proofs.Plainly.{shape}
+use Rattle.names.proofs.Plainly.{shape}
 use Rattle.decisions.specs.Matching.{isUnder, kindMatches}
-use Rattle.deciding.specs.Strengths.{kindStrength, strength, startLeading, leadBy, lead, leading}
-use Rattle.deciding.specs.declared.joining.Leading.{Leading}
+use Rattle.matching.specs.Strengths.{kindStrength, strength, startLeading, leadBy, lead, leading}
+use Rattle.matching.specs.declared.Leading.{Leading}
 use Rattle.trials.specs.Trials.{below, dotted}
 use Rattle.grants.specs.Sides.{placeIn, isFirm}
 use Rattle.grants.specs.Scratch.{placed, lineIn, isFirmIn, staying, belowStrength, endStrength, stemStrength, leadingBy, stemPlace, stemPath}

@@ -19,25 +19,25 @@ use Rattle.grants.specs.declared.judging.Caught.the-variants as C
 -- the request to show for a path
 unfoldable pub shownOn : Listing → Listing → Text → Option Request
 unfolding firstSome shownAt trialMethods
-shownOn new old p = firstSome (λ (m : Text). shownAt new old p m) (trialMethods new old)
+shownOn old new p = firstSome (λ (m : Text). shownAt old new p m) (trialMethods old new)
 
--- the callers whom row rn grants and row ro does not, for trial method i
+-- the callers whom old's row ro denies and new's row rn grants, for trial method i
 abbrev pub freshIn : List ℕ → List ℕ → List ℕ → ℕ → ℕ
-freshIn rn ro pairs i = bitAnd (getD rn (getD pairs i 0) 0) (everyone - getD ro (getD pairs (64 + i) 0) 0)
+freshIn ro rn pairs i = bitAnd (getD rn (getD pairs (64 + i) 0) 0) (everyone - getD ro (getD pairs i 0) 0)
 
 -- the first trial method with such a caller, from i on, and the first such caller; k methods are left
 unfoldable pub caughtFrom : List ℕ → List ℕ → List ℕ → ℕ → ℕ → Caught
 unfolding trailingZeros
-caughtFrom rn ro pairs zero i = C.Nothing
-caughtFrom rn ro pairs (suc k) i =
-    cond (eqb (freshIn rn ro pairs i) 0) (caughtFrom rn ro pairs k (i + 1)) (C.At i (trailingZeros 64 (freshIn rn ro pairs i)))
+caughtFrom ro rn pairs zero i = C.Nothing
+caughtFrom ro rn pairs (suc k) i =
+    cond (eqb (freshIn ro rn pairs i) 0) (caughtFrom ro rn pairs k (i + 1)) (C.At i (trailingZeros 64 (freshIn ro rn pairs i)))
 
--- for the places a of new and b of old
+-- for the places u of old and v of new
 unfoldable pub caughtIn : List ℕ → ℕ → List ℕ → ℕ → List ℕ → ℕ → ℕ → ℕ → Caught
 unfolding caughtFrom rowIn
-caughtIn sn n so o pairs count a b = caughtFrom (rowIn sn n a) (rowIn so o b) pairs count 0
+caughtIn so o sn n pairs count u v = caughtFrom (rowIn so o u) (rowIn sn n v) pairs count 0
 
 -- the request that it stands for, on a path
 abbrev pub caughtOn : Listing → Listing → Text → Caught → Option Request
-caughtOn new old p C.Nothing = none
-caughtOn new old p (C.At m c) = some (request p (getD (trialMethods new old) m []) (callerAt (new .roles) c))
+caughtOn old new p C.Nothing = none
+caughtOn old new p (C.At m c) = some (request p (getD (trialMethods old new) m []) (callerAt (new .roles) c))

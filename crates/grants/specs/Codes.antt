@@ -6,7 +6,7 @@ use mathlib.Core.List.{List}
 use lib.ListN.{length, getD}
 use lib.Dec.{eqb}
 use lib.Bits.{bitOr}
-use Rattle.reading.specs.Sets.{digit}
+use Rattle.entries.specs.Sets.{digit}
 use Rattle.reading.specs.declared.held.Access.{Access}
 use Rattle.reading.specs.declared.held.Access.the-variants.{Open, Closed, ByRole}
 use Rattle.deciding.specs.Joinings.{nothingJoined}

@@ -8,11 +8,11 @@ use mathlib.Core.List.{List, [], _∷_, _++_}
 use lib.ListN.{length, getD, take}
 use lib.Dec.{eqb, leb}
 use Rattle.text.specs.Texts.{Text, part, same, member, run}
-use Rattle.listings.specs.Patterns.{PatternKind, exact, prefix, extension, default, unpermitted, kindOf}
-use Rattle.listings.specs.Listings.{Listing, patternsOf}
+use Rattle.names.specs.Patterns.{PatternKind, exact, prefix, extension, default, unpermitted, kindOf}
+use Rattle.reading.specs.Views.{View, texts}
 use Rattle.decisions.specs.Matching.{isUnder}
-use Rattle.deciding.specs.Strengths.{strength, startLeading, leadBy}
-use Rattle.deciding.specs.declared.joining.Leading.{Leading}
+use Rattle.matching.specs.Strengths.{strength, startLeading, leadBy}
+use Rattle.matching.specs.declared.Leading.{Leading}
 use Rattle.trials.specs.Trials.{below, dotted}
 use Rattle.grants.specs.Sides.{SideOf, PairsOf, PairsFit}
 use Rattle.grants.specs.declared.scratch.Counts.{Counts}
@@ -111,23 +111,23 @@ stemPath filler default = below [] filler
 stemPath filler unpermitted = []
 
 -- ---- all the numbers
--- the pattern texts of both listings in the order of the trials
-abbrev pub textsOf : Listing → Listing → List Text
-textsOf old new = patternsOf new ++ patternsOf old
+-- the pattern texts of both views in the order of the trials
+abbrev pub textsOf : View → View → List Text
+textsOf old new = texts new ++ texts old
 
 -- the numbers of a stem of kind k
-pub record StemIn (old new : Listing) (x : List ℕ) (j : ℕ) (k : PatternKind) : Type 0 where
-  pub in-old : inOld x j ≡ stemPlace (patternsOf old) k
-  pub in-new : inNew x j ≡ stemPlace (patternsOf new) k
+pub record StemIn (old new : View) (x : List ℕ) (j : ℕ) (k : PatternKind) : Type 0 where
+  pub in-old : inOld x j ≡ stemPlace (texts old) k
+  pub in-new : inNew x j ≡ stemPlace (texts new) k
 
--- the scratch x, with its counts c, has the numbers of both listings
-pub record Numbered (old new : Listing) (x : List ℕ) (c : Counts) : Type 0 where
+-- the scratch x, with its counts c, has the numbers of both views
+pub record Numbered (old new : View) (x : List ℕ) (c : Counts) : Type 0 where
   pub size : length x ≡ 2048
-  pub olds : c .old ≡ length (patternsOf old)
-  pub news : c .new ≡ length (patternsOf new)
+  pub olds : c .old ≡ length (texts old)
+  pub news : c .new ≡ length (texts new)
   pub old-side : SideOf (new .roles) old (oldSide x)
   pub new-side : SideOf (new .roles) new (newSide x)
-  pub methods : PairsOf new old (pairsIn x) (c .methods)
+  pub methods : PairsOf (old .methods) (new .methods) (pairsIn x) (c .methods)
   pub sorts : (j : ℕ) → j < length (textsOf old new) → sortAt x j ≡ sorted (textsOf old new) j
   pub stems : (j : ℕ) → j < length (textsOf old new) → member (getD (textsOf old new) j []) (take j (textsOf old new)) ≡ false
       → StemIn old new x j (kindOf (getD (textsOf old new) j []))

@@ -8,16 +8,16 @@ use lib.ListN.{length, getD, drop}
 use lib.Dec.{eqb, ltb, leb}
 use Rattle.text.specs.Texts.{Text, indexOf}
 use Rattle.listings.specs.Listings.{Listing, patternsOf}
-use Rattle.reading.specs.Sets.{setOf, digit}
-use Rattle.reading.specs.Views.{coverAt, accessAt}
+use Rattle.entries.specs.Sets.{setOf, digit}
+use Rattle.reading.specs.Views.{View, texts, coverAt, accessAt}
 use Rattle.reading.specs.declared.held.Access.{Access}
 use Rattle.reading.specs.declared.held.Access.the-variants.{Open, Closed, ByRole}
 use Rattle.decisions.specs.Requests.{Caller, nobody, holder}
-use Rattle.deciding.specs.Strengths.{leading}
+use Rattle.matching.specs.Strengths.{leading}
 use Rattle.deciding.specs.Joinings.{nothingJoined, joinWith}
-use Rattle.deciding.specs.declared.joining.Leading.{Leading}
+use Rattle.matching.specs.declared.Leading.{Leading}
 use Rattle.deciding.specs.declared.joining.Joined.{Joined}
-use Rattle.trials.specs.Trials.{one, trialMethods}
+use Rattle.trials.specs.Trials.{one, methodsTried}
 
 -- ---- places: 0 where a path has no best match, else the number of its line, from 1
 abbrev pub placeIn : Leading → ℕ
@@ -57,10 +57,10 @@ unfoldable pub granted : Joined → ℕ
 granted j = cond (not (j .any)) everyone (cond (j .closed) 0 (cond (j .free) everyone (4 * (j .roles % 4294967296))))
 
 -- with the roles in the numbers of ns
-abbrev pub seenJoined : List Text → Listing → Joined → Joined
-seenJoined ns l j = record { any = j .any; closed = j .closed; free = j .free; roles = renumbered ns (l .roles) (j .roles) }
+abbrev pub seenJoined : List Text → View → Joined → Joined
+seenJoined ns v j = record { any = j .any; closed = j .closed; free = j .free; roles = renumbered ns (v .roles) (j .roles) }
 
--- ---- the table of a side: for each `pattern` line k its cover, its mark, its roles, and how many lines stand between it and the next with its text
+-- ---- the table of a side, which is made of a view: for each `pattern` line k its cover, its mark, its roles, and how many lines stand between it and the next with its text
 abbrev pub accessMark : Access → ℕ
 accessMark Open = 0
 accessMark Closed = 1
@@ -72,19 +72,19 @@ accessRoles Closed = 0
 accessRoles (ByRole x) = x
 
 -- the lines between line k and the next with its text, or all that follow
-unfoldable pub gapAt : List Text → ℕ → ℕ
-unfolding indexOf
-gapAt ts k = indexOf (getD ts k []) (drop (k + 1) ts)
+unfoldable pub gapAt : View → ℕ → ℕ
+unfolding indexOf texts
+gapAt v k = indexOf (getD (texts v) k []) (drop (k + 1) (texts v))
 
-pub record LineIn (ns : List Text) (l : Listing) (side : List ℕ) (k : ℕ) : Type 0 where
-  pub cover : getD side k 0 ≡ coverAt l k
-  pub mark : getD side (128 + k) 0 ≡ accessMark (accessAt l k)
-  pub roles : getD side (256 + k) 0 ≡ renumbered ns (l .roles) (accessRoles (accessAt l k))
-  pub gap : getD side (384 + k) 0 ≡ gapAt (patternsOf l) k
+pub record LineIn (ns : List Text) (v : View) (side : List ℕ) (k : ℕ) : Type 0 where
+  pub cover : getD side k 0 ≡ coverAt v k
+  pub mark : getD side (128 + k) 0 ≡ accessMark (accessAt v k)
+  pub roles : getD side (256 + k) 0 ≡ renumbered ns (v .roles) (accessRoles (accessAt v k))
+  pub gap : getD side (384 + k) 0 ≡ gapAt v k
 
-pub record SideOf (ns : List Text) (l : Listing) (side : List ℕ) : Type 0 where
+pub record SideOf (ns : List Text) (v : View) (side : List ℕ) : Type 0 where
   pub size : length side ≡ 512
-  pub lines : (k : ℕ) → k < length (patternsOf l) → LineIn ns l side k
+  pub lines : (k : ℕ) → k < length (texts v) → LineIn ns v side k
 
 -- what the table says of line k
 abbrev pub accessFrom : ℕ → ℕ → Access
@@ -119,27 +119,27 @@ unfoldable pub rowIn : List ℕ → ℕ → ℕ → List ℕ
 unfolding listed grantsIn
 rowIn side n a = listed 32 (grantsIn side n a)
 
--- ---- the trial methods, by their numbers in both listings
-pub record PairsOf (new old : Listing) (pairs : List ℕ) (count : ℕ) : Type 0 where
+-- ---- the trial methods, by their numbers among old's methods os, and 64 places on among new's, ns
+pub record PairsOf (os ns : List Text) (pairs : List ℕ) (count : ℕ) : Type 0 where
   pub size : length pairs ≡ 128
-  pub all : count ≡ length (trialMethods new old)
+  pub all : count ≡ length (methodsTried os ns)
   pub few : count ≤ 63
-  pub firsts : (i : ℕ) → i < count → getD pairs i 0 ≡ indexOf (getD (trialMethods new old) i []) (new .methods)
-  pub seconds : (i : ℕ) → i < count → getD pairs (64 + i) 0 ≡ indexOf (getD (trialMethods new old) i []) (old .methods)
+  pub olds : (i : ℕ) → i < count → getD pairs i 0 ≡ indexOf (getD (methodsTried os ns) i []) os
+  pub news : (i : ℕ) → i < count → getD pairs (64 + i) 0 ≡ indexOf (getD (methodsTried os ns) i []) ns
 
 -- the methods ms, as far as they are paired
-pub record PairedUp (new old : Listing) (ms : List Text) (pairs : List ℕ) : Type 0 where
+pub record PairedUp (os ns ms : List Text) (pairs : List ℕ) : Type 0 where
   pub size : length pairs ≡ 128
   pub few : length ms ≤ 62
-  pub firsts : (i : ℕ) → i < length ms → getD pairs i 0 ≡ indexOf (getD ms i []) (new .methods)
-  pub seconds : (i : ℕ) → i < length ms → getD pairs (64 + i) 0 ≡ indexOf (getD ms i []) (old .methods)
+  pub olds : (i : ℕ) → i < length ms → getD pairs i 0 ≡ indexOf (getD ms i []) os
+  pub news : (i : ℕ) → i < length ms → getD pairs (64 + i) 0 ≡ indexOf (getD ms i []) ns
 
 -- the numbers are small
 abbrev pub PairsFit : List ℕ → ℕ → Type 0
 PairsFit pairs count = (i : ℕ) → i < count → (getD pairs i 0 < 32) × (getD pairs (64 + i) 0 < 32)
 
--- ---- all that is made ready of two listings
-pub record Ready (new old : Listing) (sn so pairs : List ℕ) (count : ℕ) : Type 0 where
-  pub new-side : SideOf (new .roles) new sn
+-- ---- all that is made ready of two views
+pub record Ready (old new : View) (so sn pairs : List ℕ) (count : ℕ) : Type 0 where
   pub old-side : SideOf (new .roles) old so
-  pub methods : PairsOf new old pairs count
+  pub new-side : SideOf (new .roles) new sn
+  pub methods : PairsOf (old .methods) (new .methods) pairs count

@@ -5,7 +5,7 @@ ghost use Prim.Native.Nat.{_+_, _≤_, _<_};
 ghost use lib.ListN.{length, getD};
 ghost use Rattle.grants.specs.Sides.{accessIn, granted, listed, rowIn};
 ghost use Rattle.grants.specs.Codes.{codeOf, codeFor, joinedWith, joinedIn, grantedAt, none, Along};
-use reading::tables;
+use entries::tables;
 
 // The set of all callers.
 pub const EVERYONE: u64 = 18446744073709551615;

@@ -1,9 +1,9 @@
 // The C library: the calls of the three layers in one archive. Each is its layer's own, with its layer's statement.
 ghost use Rattle.reading.specs.Outcomes.{ReadOutcome};
 ghost use Rattle.deciding.specs.Outcomes.{asked, DecideOutcome};
-ghost use Rattle.comparing.specs.Outcomes.{CompareOutcome};
-use comparing::answers::Comparison;
+ghost use Rattle.comparisons.specs.Outcomes.{CompareOutcome};
 use comparing::comparer;
+use comparisons::answers::Comparison;
 use deciding::answers::Decision;
 use deciding::decider;
 use listings::answers::Report;

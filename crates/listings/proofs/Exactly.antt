@@ -13,7 +13,7 @@ use borrow.Author.Tests.{le-leb, eq-eqb, ne-eqb, eqb-true, eqb-false}
 use Rattle.text.specs.Texts.{Text}
 use Rattle.text.specs.Lines.{Line, linesOf}
 use Rattle.listings.specs.Records.{Record, formed}
-use Rattle.listings.specs.Limits.{mostBytes}
+use Rattle.limits.specs.Limits.{mostBytes}
 use Rattle.listings.specs.Refusals.{accepted, refusal, numberOf, breaks, readFrom, isFirstLine, readLines, readingOf}
 use Rattle.listings.specs.Listings.{recordsIn}
 use Rattle.listings.specs.Rules.{lineAt, recordsBefore, isEnded, whereLine, isNone, someBreaks, recordBreaks, brokenIn, broken, orderOf, isEarlier, rowNumber}

@@ -4,16 +4,12 @@
 --   Lineups     the order of the rules, and the first that is broken
 --   Downward    reading line by line
 -- For the crates above:
---   Plainly     the kinds of pattern in plain words
 --   Lines       where a `pattern` line comes from
 --   Headers     the first line
 --   Sound       the records of an accepted listing pass every rule
 -- The code, module by module:
---   Namings     names: names and patterns
 --   Followings  records: what may follow what
-pub mod Namings
 pub mod Followings
-pub mod Plainly
 pub mod Lines
 pub mod Headers
 pub mod Sound

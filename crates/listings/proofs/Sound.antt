@@ -9,8 +9,9 @@ use lib.Dec.{ltb}
 use borrow.Author.Tests.{ltb-false}
 use Rattle.text.specs.Texts.{first, run, distinct}
 use Rattle.listings.specs.Records.{Record, placeAfter, mayFollow, fieldsWhere, rolesIn, methodsIn}
-use Rattle.listings.specs.Names.{nameFits, patternFits}
-use Rattle.listings.specs.Limits.{mostConstraints, mostCollections, mostPatterns, mostMethodLines, mostRoles, mostMethods, count, tooMany}
+use Rattle.listings.specs.Fields.{nameFits, patternFits}
+use Rattle.limits.specs.Limits.{mostConstraints, mostCollections, mostPatterns, mostMethodLines, mostRoles, mostMethods}
+use Rattle.listings.specs.Counts.{count, tooMany}
 use Rattle.listings.specs.Refusals.{inWrongPlace, declaresAgain, breaks, firstBroken}
 use Rattle.listings.specs.declared.records.Kind.the-variants.{Constraint, Collection, Pattern, Method, Omit}
 use Rattle.listings.specs.declared.answers.Fault.{Fault}

@@ -1,8 +1,7 @@
--- The meaning of a listing, in document 01's words, on the texts of `text`. Read in this order:
+-- The meaning of a listing, in document 01's words, on the texts of `text`. What a name, a method or a pattern may be stands in `names`, the most-numbers in `limits`. Read in this order:
 --   Records   the records, and which may follow which
---   Patterns  the kinds of pattern
---   Names     what a name or a pattern has to be
---   Limits    the most that a listing may hold
+--   Fields    what the field of a record has to be
+--   Counts    when the records are too many
 --   Refusals  the rules that a listing can break, their numbers and their order: what reading answers
 --   Listings  what an accepted listing is: its roles, methods, constraints and collections
 --   Propers   what is known of every accepted listing
@@ -11,9 +10,8 @@
 --   Heads     how the code takes a line's head and a record's place
 -- docs/READING.md explains the notation.
 pub mod Records
-pub mod Patterns
-pub mod Names
-pub mod Limits
+pub mod Fields
+pub mod Counts
 pub mod Refusals
 pub mod Listings
 pub mod Propers

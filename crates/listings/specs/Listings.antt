@@ -6,7 +6,8 @@ use mathlib.Core.Option.{Option, none, some}
 use lib.ListN.{drop}
 use Rattle.text.specs.Texts.{Text, bytes, same, member, run, onLast}
 use Rattle.text.specs.Lines.{Line, linesOf}
-use Rattle.listings.specs.Records.{Record, formed, isStar, declaredIn, rolesIn, methodsIn}
+use Rattle.listings.specs.Records.{Record, formed, declaredIn, rolesIn, methodsIn}
+use Rattle.names.specs.Names.{isStar}
 use Rattle.listings.specs.declared.records.Kind.{Kind}
 use Rattle.listings.specs.declared.records.Kind.the-variants.{Role, Constraint, Allow, Collection, Pattern, Method, Omit, End}
 

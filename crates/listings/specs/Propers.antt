@@ -6,8 +6,7 @@ use mathlib.Core.List.{List, List·Memᴰ}
 use Prim.Native.Nat.{_≤_}
 use lib.ListN.{length}
 use Rattle.text.specs.Texts.{Text, member, Once}
-use Rattle.listings.specs.Records.{isStar}
-use Rattle.listings.specs.Names.{isRoleName, isMethodName, isPattern}
+use Rattle.names.specs.Names.{isStar, isRoleName, isMethodName, isPattern}
 use Rattle.listings.specs.Listings.{Listing, PatternLine, patternLinesOf, patternsOf}
 
 pub record Proper (l : Listing) : Type 0 where

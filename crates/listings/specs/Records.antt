@@ -6,6 +6,7 @@ use mathlib.Core.Option.{Option, none, some}
 use lib.Dec.{eqb}
 use Rattle.text.specs.Texts.{Text, bytes, same, distinct}
 use Rattle.text.specs.Lines.{Line, fieldsOf}
+use Rattle.names.specs.Names.{isStar}
 use Rattle.listings.specs.declared.records.Kind.{Kind}
 use Rattle.listings.specs.declared.records.Kind.the-variants.{Role, Constraint, Allow, Collection, Pattern, Method, Omit, End}
 use Rattle.listings.specs.declared.records.Named.{Named}
@@ -130,11 +131,6 @@ isKind k r = eqb (kindNumber (r .kind)) (kindNumber k)
 unfoldable pub fieldsWhere : (Record → Bool) → List Record → List Text
 fieldsWhere test [] = []
 fieldsWhere test (r ∷ rs) = cond (test r) (r .field ∷ fieldsWhere test rs) (fieldsWhere test rs)
-
--- the name that in `allow⇥*` stands for every declared role
-unfoldable pub isStar : Text → Bool
-unfolding same
-isStar n = same n (bytes "*")
 
 -- the record declares a role, or allows one by name
 unfoldable pub namesRole : Record → Bool

@@ -8,10 +8,12 @@ use lib.Dec.{ltb}
 use Rattle.text.specs.Texts.{Text, bytes, same, member, first}
 use Rattle.text.specs.Lines.{Line, linesOf}
 use Rattle.listings.specs.Records.{Record, formed, placeAfter, mayFollow, isKind, declaredIn}
-use Rattle.listings.specs.Names.{nameFits, patternFits}
-use Rattle.listings.specs.Limits.{mostBytes, tooMany}
+use Rattle.listings.specs.Fields.{nameFits, patternFits}
+use Rattle.limits.specs.Limits.{mostBytes}
+use Rattle.listings.specs.Counts.{tooMany}
 use Rattle.listings.specs.declared.records.Kind.the-variants.{Role, End}
 use Rattle.listings.specs.declared.answers.Fault.{Fault}
+use Rattle.listings.specs.declared.answers.Report.{Report}
 use Rattle.listings.specs.declared.answers.Fault.the-variants.{LongListing, BadFirstLine, BadForm, WrongPlace, BadName, BadPattern, RoleTwice, PastMost, NoEnd}
 
 -- what reading answers: accepted, or the rule that is broken and the line
@@ -46,6 +48,10 @@ badMethod = 12
 
 abbrev pub badCaller : ℕ
 badCaller = 13
+
+-- what every call hands back first: number, side and line
+abbrev pub report : ℕ → ℕ → ℕ → Report
+report number side line = record { number = number; side = side; line = line }
 
 -- ---- the rules for one record, by the records before it
 -- 5: record in a wrong place

@@ -9,7 +9,7 @@ use lib.Dec.{eqb, ltb, leb}
 use Rattle.text.specs.Texts.{Text, same}
 use Rattle.text.specs.Lines.{Line, linesOf}
 use Rattle.listings.specs.Records.{Record, formed, isKind}
-use Rattle.listings.specs.Limits.{mostBytes}
+use Rattle.limits.specs.Limits.{mostBytes}
 use Rattle.listings.specs.Refusals.{isFirstLine, breaks}
 use Rattle.listings.specs.Listings.{recordsIn}
 use Rattle.listings.specs.declared.records.Kind.the-variants.{End}

@@ -1,6 +1,6 @@
 // What a call can be refused for, and 01's numbers.
 ghost use mathlib.Core.Path.{_≡_};
-ghost use Rattle.listings.specs.Refusals.{numberOf};
+ghost use Rattle.listings.specs.Refusals.{numberOf, report};
 
 // What a listing can be refused for; specs/Refusals.antt gives the numbers.
 pub enum Fault {
@@ -44,12 +44,34 @@ pub const BAD_CALLER: u32 = 13;
 
 pub const SMALL_ANSWER: u32 = 14;
 
-// What a call hands back to C: all three are 0 where nothing is refused.
+// What every call hands back to C, by itself or first: all three are 0 where nothing is refused.
 #[repr(C)]
 pub struct Report {
     pub number: u32,
     pub side: u32,
     pub line: u32,
+}
+
+// Nothing is refused.
+pub fn accept() -> Report
+    ensures { λ r. ⌜ r ≡ report 0 0 0 ⌝ }
+{
+    Report {
+        number: 0,
+        side: 0,
+        line: 0,
+    }
+}
+
+// A refusal.
+pub fn refuse(number: u32, side: u32, line: u32) -> Report
+    ensures { λ r. ⌜ r ≡ report number side line ⌝ }
+{
+    Report {
+        number: number,
+        side: side,
+        line: line,
+    }
 }
 
 // 01's number of a fault.

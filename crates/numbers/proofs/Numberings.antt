@@ -1,35 +1,22 @@
 -- The parts of the scratch put together: laws in the shape of the code.
 use mathlib.Core.Path.{_≡_, refl, sym, ap, subst, _∙_}
-use mathlib.Core.Bool.{Bool, false}
-use mathlib.Core.List.{List, [], _++_}
+use mathlib.Core.List.{List}
 use Prim.Native.Nat.{ℕ, _+_, _-_, _≤_, _<_}
 use native.Mathlib.Omega.{arith}
 use lib.ListN.{length, getD, take, drop, length-append, length-drop}
 use lib.Seq.{ext-getD, getD-take, getD-drop, length-take-le}
-use Rattle.text.specs.Texts.{Text, part, member}
-use Rattle.listings.specs.Listings.{Listing, listingOf, patternsOf}
-use Rattle.listings.specs.Patterns.{default, kindOf}
+use Rattle.text.specs.Texts.{Text, part}
 use Rattle.reading.specs.Holds.{Holds}
-use Rattle.reading.specs.declared.tables.Tally.{Tally}
-use Rattle.listings.specs.Propers.{Proper}
-use Rattle.reading.proofs.Accepted.{accepted-proper}
-use Rattle.grants.specs.Sides.{SideOf, PairsOf}
-use Rattle.grants.specs.Scratch.{Numbered, StemIn, sorted, sortOf, stemPlace, textsOf}
+use Rattle.reading.specs.Views.{View, texts}
+use Rattle.grants.specs.Scratch.{Numbered, sorted, textsOf}
 use Rattle.grants.specs.declared.scratch.Counts.{Counts}
-use Rattle.numbers.specs.Writes.{Kept, Both, BothHeld, BothLent, Lent, SideWritten, MethodsWritten}
-use Rattle.numbers.specs.Stemming.{stemIn, lastStem, StemIs, AllStems}
+use Rattle.numbers.specs.Writes.{Kept, BothHeld, BothLent, Lent, oldView, newView, SideWritten, MethodsWritten}
+use Rattle.numbers.specs.Stemming.{lastStem, AllStems}
 use Rattle.numbers.specs.Numbering.{SidesWritten, TablesWritten, NumbersWritten, countsOf}
 use Rattle.numbers.specs.declared.pairs.Pair.{Pair}
 use Rattle.numbers.specs.declared.stems.Stem.{Stem}
-use Rattle.numbers.proofs.Writings.{kept-then, part-at, part-length, part-kept, held-still}
+use Rattle.numbers.proofs.Writings.{kept-then, part-at, part-length, part-kept, olds-still, news-still}
 use Rattle.numbers.proofs.PairsPut.{both-still}
-
--- a region behind what is written stays
-part-behind : (a e : ℕ) (w₀ w : List ℕ) → Kept a e w₀ w → (b f : ℕ) → e ≤ b → b ≤ f → f ≤ length w₀ → part b f w ≡ part b f w₀
-part-behind a e w₀ w K b f h l m =
-    let p : length (part b f w) ≡ f - b = part-length b f w l (omega (arith, K .size)) in
-    ext-getD 0 (part b f w) (part b f w₀) (p ∙ sym (part-length b f w₀ l m)) (λ i q.
-    part-at b f i w (omega arith) ∙ K .behind (b + i) (omega arith) ∙ sym (part-at b f i w₀ (omega arith)))
 
 -- a region of a region
 part-part : (a b c : ℕ) (w : List ℕ) → b ≤ c → c ≤ 2048 → a + 2048 ≤ length w → part b c (part a (a + 2048) w) ≡ part (a + b) (a + c) w
@@ -44,17 +31,26 @@ part-part a b c w l h m =
     ∙ sym (part-at (a + b) (a + c) i w (omega arith)))
 
 module _ (old new : Text) (pair : Pair) (at : ℕ) (w₀ : List ℕ) (B : BothLent old new pair at 2048 w₀) where
-  abbrev ol : Listing
-  ol = listingOf old
+  -- the views that are held first
+  abbrev ov : View
+  ov = oldView old w₀ pair
 
-  abbrev nl : Listing
-  nl = listingOf new
+  abbrev nv : View
+  nv = newView new w₀ pair
+
+  -- they stay
+  module _ (a e : ℕ) (w : List ℕ) (K : Kept a e w₀ w) (h : 2048 ≤ a) where
+    olds-same : oldView old w pair ≡ ov
+    olds-same = olds-still old pair a e w₀ w K h (omega (arith, B .clear, B .room))
+
+    news-same : newView new w pair ≡ nv
+    news-same = news-still new pair a e w₀ w K h (omega (arith, B .clear, B .room))
 
   -- ---- the sides
   pub old-lent : Lent old (pair .old) 0 at 512 w₀
   old-lent = record { held = B .both .olds; first = omega arith; clear = B .clear; room = omega (arith, B .room) }
 
-  module _ (w₁ : List ℕ) (O : SideWritten (nl .roles) ol at w₀ w₁) where
+  module _ (w₁ : List ℕ) (O : SideWritten (nv .roles) ov at w₀ w₁) where
     lent-1 : BothLent old new pair at 2048 w₁
     lent-1 = both-still old new pair at 2048 at (at + 512) w₀ w₁ B (O .kept) (B .clear)
 
@@ -64,35 +60,44 @@ module _ (old new : Text) (pair : Pair) (at : ℕ) (w₀ : List ℕ) (B : BothLe
     pub new-lent : Lent new (pair .new) 1024 (at + 512) 512 w₁
     new-lent = record { held = lent-1 .both .news; first = omega arith; clear = omega (arith, B .clear); room = omega (arith, lent-1 .room) }
 
-    pub sides-written : (w : List ℕ) → SideWritten (nl .roles) nl (at + 512) w₁ w → SidesWritten ol nl at w₀ w
+    pub sides-written : (w : List ℕ) → SideWritten (newView new w₁ pair .roles) (newView new w₁ pair) (at + 512) w₁ w → SidesWritten ov nv at w₀ w
     sides-written w N = record {
       kept = kept-then at (at + 1024) at (at + 512) (at + 512) (at + 512 + 512) w₀ w₁ w (O .kept) (N .kept) (omega arith) (omega arith) (omega arith) (omega arith);
       old-side = rw (part-kept (at + 512) (at + 512 + 512) w₁ w (N .kept) at (at + 512) (omega arith) (omega arith) (omega (arith, lent-1 .room))) (O .side);
-      new-side = N .side;
+      new-side = rw (news-same at (at + 512) w₁ (O .kept) (B .clear)) at (N .side);
     }
 
   -- ---- and the methods
-  module _ (w₁ : List ℕ) (S : SidesWritten ol nl at w₀ w₁) where
+  module _ (w₁ : List ℕ) (S : SidesWritten ov nv at w₀ w₁) where
     lent-2 : BothLent old new pair at 2048 w₁
     lent-2 = both-still old new pair at 2048 at (at + 1024) w₀ w₁ B (S .kept) (B .clear)
 
     pub methods-lent : BothLent old new pair (at + 1024) 128 w₁
     methods-lent = record { both = lent-2 .both; clear = omega (arith, B .clear); room = omega (arith, lent-2 .room) }
 
-    pub tables-written : (w : List ℕ) (count : ℕ) → MethodsWritten ol nl (at + 1024) w₁ w count → TablesWritten ol nl at w₀ w count
+    pub tables-written : (w : List ℕ) (count : ℕ) → MethodsWritten (oldView old w₁ pair .methods) (newView new w₁ pair .methods) (at + 1024) w₁ w count → TablesWritten ov nv at w₀ w count
     tables-written w count M = record {
       kept = kept-then at (at + 1152) at (at + 1024) (at + 1024) (at + 1024 + 128) w₀ w₁ w (S .kept) (M .kept) (omega arith) (omega arith) (omega arith) (omega arith);
       old-side = rw (part-kept (at + 1024) (at + 1024 + 128) w₁ w (M .kept) at (at + 512) (omega arith) (omega arith) (omega (arith, lent-2 .room))) (S .old-side);
       new-side = rw (part-kept (at + 1024) (at + 1024 + 128) w₁ w (M .kept) (at + 512) (at + 512 + 512) (omega arith) (omega arith) (omega (arith, lent-2 .room))) (S .new-side);
-      methods = M .pairs;
+      methods = rw (olds-same at (at + 1024) w₁ (S .kept) (B .clear), news-same at (at + 1024) w₁ (S .kept) (B .clear)) at (M .pairs);
     }
 
   -- ---- and the stems
-  module _ (m : ℕ) (w₁ : List ℕ) (T : TablesWritten ol nl at w₀ w₁ m) where
+  module _ (m : ℕ) (w₁ : List ℕ) (T : TablesWritten ov nv at w₀ w₁ m) where
     pub stems-lent : BothLent old new pair at 2048 w₁
     stems-lent = both-still old new pair at 2048 at (at + 1152) w₀ w₁ B (T .kept) (B .clear)
 
-    module _ (w : List ℕ) (A : AllStems ol nl at w₁ w) where
+    olds-1 : oldView old w₁ pair ≡ ov
+    olds-1 = olds-same at (at + 1152) w₁ (T .kept) (B .clear)
+
+    news-1 : newView new w₁ pair ≡ nv
+    news-1 = news-same at (at + 1152) w₁ (T .kept) (B .clear)
+
+    module _ (w : List ℕ) (A′ : AllStems (texts (oldView old w₁ pair)) (texts (newView new w₁ pair)) at w₁ w) where
+      A : AllStems (texts ov) (texts nv) at w₁ w
+      A = rw (olds-1, news-1) at A′
+
       kept-all : Kept at (at + 2048) w₀ w
       kept-all = kept-then at (at + 2048) at (at + 1152) (at + 1152) (at + 2048) w₀ w₁ w (T .kept) (A .kept) (omega arith) (omega arith) (omega arith) (omega arith)
 
@@ -111,12 +116,12 @@ module _ (old new : Text) (pair : Pair) (at : ℕ) (w₀ : List ℕ) (B : BothLe
       inside b j h = let e : at + (b + j) ≡ at + b + j = omega arith in part-at at (at + 2048) (b + j) w (omega arith) ∙ ap (λ (n : ℕ). getD w n 0) e
 
       abbrev ts : List Text
-      ts = textsOf ol nl
+      ts = textsOf ov nv
 
       few : length ts ≤ 256
-      few = omega (arith, length-append (patternsOf nl) (patternsOf ol), accepted-proper old (B .both .olds .accepts) .few-patterns, accepted-proper new (B .both .news .accepts) .few-patterns)
+      few = omega (arith, length-append (texts nv) (texts ov), B .both .olds .proper .few-patterns, B .both .news .proper .few-patterns)
 
-      counted : NumbersWritten ol nl at w₀ w (countsOf ol nl m)
+      counted : NumbersWritten ov nv at w₀ w (countsOf ov nv m)
       unfolding sorted lastStem
       counted = record {
         kept = kept-all;
@@ -140,24 +145,25 @@ module _ (old new : Text) (pair : Pair) (at : ℕ) (w₀ : List ℕ) (B : BothLe
         };
       }
 
-      pub numbers-written : (c : Counts) → c ≡ countsOf ol nl m → NumbersWritten ol nl at w₀ w c
-      numbers-written c e = subst (NumbersWritten ol nl at w₀ w) (sym e) counted
+      pub numbers-written : (c : Counts) → c ≡ countsOf (oldView old w₁ pair) (newView new w₁ pair) m → NumbersWritten ov nv at w₀ w c
+      numbers-written c e = subst (NumbersWritten ov nv at w₀ w) (sym (rw (olds-1, news-1) at e)) counted
 
 -- how many lines both have
-pub lines-fit : (old new : Text) (pair : Pair) (at z : ℕ) (w : List ℕ) → BothLent old new pair at z w → (o n : ℕ) → o ≡ length (patternsOf (listingOf old)) → n ≡ length (patternsOf (listingOf new)) → n + o < 18446744073709551616
-lines-fit old new pair at z w B o n p q = omega (arith, accepted-proper old (B .both .olds .accepts) .few-patterns, accepted-proper new (B .both .news .accepts) .few-patterns)
+module _ (old new : Text) (pair : Pair) (at z : ℕ) (w : List ℕ) (B : BothLent old new pair at z w) (o n : ℕ) (p : o ≡ length (texts (oldView old w pair))) (q : n ≡ length (texts (newView new w pair))) where
+  pub lines-fit : n + o < 18446744073709551616
+  lines-fit = omega (arith, B .both .olds .proper .few-patterns, B .both .news .proper .few-patterns)
 
-pub counts-are : (old new : Listing) (o n m : ℕ) → o ≡ length (patternsOf old) → n ≡ length (patternsOf new) → record { old = o; new = n; methods = m } ≡ countsOf old new m
-counts-are old new o n m p q = rw (p, q)
+  pub counts-are : (m : ℕ) → record { old = o; new = n; methods = m } ≡ countsOf (oldView old w pair) (newView new w pair) m
+  counts-are m = rw (p, q)
 
-pub lines-both : (old new : Listing) (o n : ℕ) → o ≡ length (patternsOf old) → n ≡ length (patternsOf new) → n + o ≡ length (textsOf old new)
-lines-both old new o n p q = omega (arith, length-append (patternsOf new) (patternsOf old))
+  pub lines-both : n + o ≡ length (textsOf (oldView old w pair) (newView new w pair))
+  lines-both = omega (arith, p, q, length-append (texts (newView new w pair)) (texts (oldView old w pair)))
 
 -- ---- the whole scratch
 pub all-lent : (old new : Text) (pair : Pair) (w : List ℕ) → 4096 ≤ length w → BothHeld old new w pair → BothLent old new pair 2048 2048 w
 all-lent old new pair w h B = record { both = B; clear = omega arith; room = omega arith }
 
-module _ (old new : Listing) (w₀ w : List ℕ) (c : Counts) (N : NumbersWritten old new 2048 w₀ w c) where
+module _ (old new : View) (w₀ w : List ℕ) (c : Counts) (N : NumbersWritten old new 2048 w₀ w c) where
   pub all-numbers : Numbered old new (part 2048 4096 w) c
   all-numbers = N .numbers
 

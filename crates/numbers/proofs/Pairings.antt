@@ -1,4 +1,4 @@
--- The trial methods by their numbers in both listings: laws in the shape of the code.
+-- The trial methods by their numbers among old's methods and among new's: laws in the shape of the code.
 use mathlib.Core.Path.{_≡_, refl, sym, ap, _∙_}
 use mathlib.Core.Bool.{Bool, true, false, cond}
 use mathlib.Core.List.{List, [], _∷_, _++_, append-assoc, append-nil}
@@ -9,16 +9,11 @@ use native.Mathlib.Omega.{arith}
 use lib.ListN.{length, getD, set, take, length-set, List·getD-append}
 use lib.Seq.{getD-set-same, getD-set-other, getD-append-seam, take-suc, take-length, length-take-le}
 use borrow.Author.Tests.{ltb-false, lt-ltb, le-ltb}
-use Rattle.text.specs.Texts.{Text, member, indexOf}
-use Rattle.listings.specs.Listings.{Listing, listingOf}
-use Rattle.reading.specs.Holds.{Holds}
-use Rattle.reading.specs.declared.tables.Tally.{Tally}
-use Rattle.listings.specs.Propers.{Proper}
-use Rattle.reading.proofs.Accepted.{accepted-proper}
-use Rattle.trials.specs.Fillers.{fillerMethodOf}
-use Rattle.trials.specs.Trials.{further, joined, trialMethods}
+use Rattle.text.specs.Texts.{Text, member, indexOf, Once}
+use Rattle.trials.specs.Fillers.{fillerMethod}
+use Rattle.trials.specs.Trials.{further, joined, methodsTried}
 use Rattle.grants.specs.Sides.{PairsOf, PairedUp}
-use Rattle.trials.proofs.Bounds.{method-of-unnamed}
+use Rattle.trials.proofs.Bounds.{unnamed-in-both}
 use Rattle.text.proofs.Indices.{index-member, length-snoc, index-bound}
 
 -- ---- one pair more
@@ -51,40 +46,19 @@ module _ (us ms : List Text) (t : Text) (pairs : List ℕ) (a b n : ℕ) (z : le
           let q : i ≡ length ms = omega (arith, length-snoc ms t) in
           rw (q, n-is, getD-append-seam ms t [] []) (getD-set-same (set pairs (length ms) a) (64 + length ms) b 0 (omega (arith, length-set pairs (length ms) a)) ∙ e)
 
-module _ (new old : Listing) (ms : List Text) (t : Text) (pairs : List ℕ) (a b n : ℕ) (U : PairedUp new old ms pairs) (n-is : n ≡ length ms)
-    (p : a ≡ indexOf t (new .methods)) (q : b ≡ indexOf t (old .methods)) where
+module _ (os ns ms : List Text) (t : Text) (pairs : List ℕ) (a b n : ℕ) (U : PairedUp os ns ms pairs) (n-is : n ≡ length ms) (p : a ≡ indexOf t os) (q : b ≡ indexOf t ns) where
   -- the table stays as long
   pair-size : length (withPair n a b pairs) ≡ 128
   pair-size = length-set (set pairs n a) (64 + n) b ∙ length-set pairs n a ∙ U .size
 
   -- and holds one method more
-  pair-more : n ≤ 61 → PairedUp new old (ms ++ t ∷ []) (withPair n a b pairs)
+  pair-more : n ≤ 61 → PairedUp os ns (ms ++ t ∷ []) (withPair n a b pairs)
   pair-more h = record {
     size = pair-size;
     few = omega (arith, length-snoc ms t);
-    firsts = more-firsts (new .methods) ms t pairs a b n (U .size) n-is (omega arith) p (U .firsts);
-    seconds = more-seconds (old .methods) ms t pairs a b n (U .size) n-is (omega arith) q (U .seconds);
+    olds = more-firsts os ms t pairs a b n (U .size) n-is (omega arith) p (U .olds);
+    news = more-seconds ns ms t pairs a b n (U .size) n-is (omega arith) q (U .news);
   }
-
--- ---- what a listing says of its methods
-module _ (s : Text) (t : Tally) (w : List ℕ) (H : Holds s t w) where
-  proper : Proper (listingOf s)
-  proper = accepted-proper s (H .accepts)
-
-  -- they are few
-  pub methods-few : (n : ℕ) → n ≡ length (listingOf s .methods) → n ≤ 31
-  methods-few n e = omega (arith, proper .few-methods)
-
-  -- so their number is small, and a place among them is
-  pub count-small : (n : ℕ) → n ≡ length (listingOf s .methods) → n < 4294967296
-  count-small n e = omega (arith, methods-few n e)
-
-  pub place-small : (m : Text) (r : ℕ) → r ≡ indexOf m (listingOf s .methods) → r < 4294967296
-  place-small m r e = omega (arith, proper .few-methods, index-bound m (listingOf s .methods))
-
-  -- each stands there once
-  method-place : (i : ℕ) → i < length (listingOf s .methods) → i ≡ indexOf (getD (listingOf s .methods) i []) (listingOf s .methods)
-  method-place i h = sym (proper .methods-once i h)
 
 -- a text that is none of them has their number for its place
 unfound : (t : Text) (us : List Text) → length us ≤ indexOf t us → length us ≡ indexOf t us
@@ -92,42 +66,39 @@ unfound t us h = omega (arith, index-bound t us)
 
 -- ---- those of new
 -- the first i of them are paired
-pub record PairedNew (new old : Listing) (n i : ℕ) (pairs : List ℕ) : Type 0 where
-  pub up : PairedUp new old (take i (new .methods)) pairs
+pub record PairedNew (os ns : List Text) (n i : ℕ) (pairs : List ℕ) : Type 0 where
+  pub up : PairedUp os ns (take i ns) pairs
   pub so-far : i ≤ n
   pub few : n ≤ 31
   pub size : length pairs ≡ 128
 
-module _ (new : Text) (tn : Tally) (wn : List ℕ) (N : Holds new tn wn) (old : Listing) (n : ℕ) (n-is : n ≡ length (listingOf new .methods)) (pairs : List ℕ) where
+module _ (os ns : List Text) (n : ℕ) (n-is : n ≡ length ns) (pairs : List ℕ) where
   -- none yet
-  pub new-start : length pairs ≡ 128 → PairedNew (listingOf new) old n 0 pairs
-  new-start e = record {
-    up = record { size = e; few = omega arith; firsts = λ i h. absurd (omega arith); seconds = λ i h. absurd (omega arith) };
+  pub new-start : length ns ≤ 31 → length pairs ≡ 128 → PairedNew os ns n 0 pairs
+  new-start h e = record {
+    up = record { size = e; few = omega arith; olds = λ i h. absurd (omega arith); news = λ i h. absurd (omega arith) };
     so-far = omega arith;
-    few = methods-few new tn wn N n n-is;
+    few = omega arith;
     size = e;
   }
 
-  -- one more
-  pub new-more : (i : ℕ) (m : Text) (b : ℕ) → PairedNew (listingOf new) old n i pairs → i < n → m ≡ getD (listingOf new .methods) i []
-      → b ≡ indexOf m (old .methods) → PairedNew (listingOf new) old n (i + 1) (withPair i i b pairs)
-  new-more i m b P h e q =
-      let l : i < length (listingOf new .methods) = omega arith in
-      let z : i ≡ length (take i (listingOf new .methods)) = sym (length-take-le i (listingOf new .methods) (omega arith)) in
-      let U = pair-more (listingOf new) old (take i (listingOf new .methods)) (getD (listingOf new .methods) i []) pairs i b i (P .up) z
-      (method-place new tn wn N i l) (rw e at q) (omega (arith, P .few)) in
-      record {
-        up = rw (add-one i, take-suc (listingOf new .methods) i [] l) U;
-        so-far = omega arith;
-        few = P .few;
-        size = U .size;
-      }
+  module _ (i : ℕ) (P : PairedNew os ns n i pairs) where
+    -- one more
+    pub new-more : Once ns → (m : Text) (b : ℕ) → i < n → m ≡ getD ns i [] → b ≡ indexOf m os → PairedNew os ns n (i + 1) (withPair i b i pairs)
+    new-more once m b h e q =
+        let l : i < length ns = omega arith in
+        let z : i ≡ length (take i ns) = sym (length-take-le i ns (omega arith)) in
+        let U = pair-more os ns (take i ns) (getD ns i []) pairs b i i (P .up) z (rw e at q) (sym (once i l)) (omega (arith, P .few)) in
+        record {
+          up = rw (add-one i, take-suc ns i [] l) U;
+          so-far = omega arith;
+          few = P .few;
+          size = U .size;
+        }
 
-  -- all of them
-  pub new-end : (i : ℕ) → PairedNew (listingOf new) old n i pairs → n ≤ i → PairedUp (listingOf new) old (listingOf new .methods) pairs
-  new-end i P h =
-      let z : i ≡ length (listingOf new .methods) = omega (arith, P .so-far) in
-      rw (z, take-length (listingOf new .methods)) at (P .up)
+    -- all of them
+    pub new-end : n ≤ i → PairedUp os ns ns pairs
+    new-end h = let z : i ≡ length ns = omega (arith, P .so-far) in rw (z, take-length ns) at (P .up)
 
 -- ---- further ones of old
 -- one text more, that is one of the first list, and one that isn't
@@ -147,9 +118,9 @@ unfolding joined
 joined-more us ts t = ap (λ (l : List Text). us ++ l) (further-more us ts t) ∙ sym (append-assoc us (further us ts) (cond (member t us) [] (t ∷ [])))
 
 -- the methods of new, and further ones of the first j of old
-pub record PairedOld (new old : Listing) (own n count j : ℕ) (pairs : List ℕ) : Type 0 where
-  pub up : PairedUp new old (joined (new .methods) (take j (old .methods))) pairs
-  pub count-is : count ≡ length (joined (new .methods) (take j (old .methods)))
+pub record PairedOld (os ns : List Text) (own n count j : ℕ) (pairs : List ℕ) : Type 0 where
+  pub up : PairedUp os ns (joined ns (take j os)) pairs
+  pub count-is : count ≡ length (joined ns (take j os))
   pub so-far : j ≤ n
   pub few : (count ≤ own + j) × (own ≤ 31) × (n ≤ 31)
   pub size : length pairs ≡ 128
@@ -159,25 +130,19 @@ joined-none : (us : List Text) → joined us [] ≡ us
 unfolding joined further
 joined-none us = append-nil us
 
-module _ (new : Text) (tn : Tally) (wn : List ℕ) (N : Holds new tn wn) (old : Text) (to : Tally) (wo : List ℕ) (O : Holds old to wo) where
-  abbrev ns : List Text
-  ns = listingOf new .methods
-
-  abbrev os : List Text
-  os = listingOf old .methods
-
+module _ (os ns : List Text) where
   module _ (own n : ℕ) (own-is : own ≡ length ns) (n-is : n ≡ length os) (pairs : List ℕ) where
     -- the methods of new
-    pub old-start : PairedUp (listingOf new) (listingOf old) ns pairs → PairedOld (listingOf new) (listingOf old) own n own 0 pairs
-    old-start U = record {
+    pub old-start : length os ≤ 31 → length ns ≤ 31 → PairedUp os ns ns pairs → PairedOld os ns own n own 0 pairs
+    old-start h l U = record {
       up = rw (joined-none ns) U;
       count-is = rw (joined-none ns) own-is;
       so-far = omega arith;
-      few = (omega arith, methods-few new tn wn N own own-is, methods-few old to wo O n n-is);
+      few = (omega arith, omega arith, omega arith);
       size = U .size;
     }
 
-    module _ (count j : ℕ) (P : PairedOld (listingOf new) (listingOf old) own n count j pairs) where
+    module _ (count j : ℕ) (P : PairedOld os ns own n count j pairs) where
       module _ (h : j < n) (m : Text) (e : m ≡ getD os j []) (i : ℕ) (i-is : i ≡ indexOf m ns) where
         here : j < length os
         here = omega arith
@@ -187,7 +152,7 @@ module _ (new : Text) (tn : Tally) (wn : List ℕ) (N : Holds new tn wn) (old : 
         next = rw (add-one j, take-suc os j [] here, e) (joined-more ns (take j os) (getD os j []))
 
         -- new has it
-        pub old-known : i < own → PairedOld (listingOf new) (listingOf old) own n count (j + 1) pairs
+        pub old-known : i < own → PairedOld os ns own n count (j + 1) pairs
         old-known l =
             let k : member m ns ≡ true = sym (index-member m ns) ∙ lt-ltb (indexOf m ns) (length ns) (omega arith) in
             let d : joined ns (take (j + 1) os) ≡ joined ns (take j os) = next ∙ rw k (append-nil (joined ns (take j os))) in
@@ -200,12 +165,12 @@ module _ (new : Text) (tn : Tally) (wn : List ℕ) (N : Holds new tn wn) (old : 
             }
 
         -- new hasn't it
-        pub old-more : own ≤ i → PairedOld (listingOf new) (listingOf old) own n (count + 1) (j + 1) (withPair count own j pairs)
-        old-more l =
+        pub old-more : Once os → own ≤ i → PairedOld os ns own n (count + 1) (j + 1) (withPair count j own pairs)
+        old-more once l =
             let k : member m ns ≡ false = sym (index-member m ns) ∙ le-ltb (indexOf m ns) (length ns) (omega arith) in
             let d : joined ns (take (j + 1) os) ≡ joined ns (take j os) ++ m ∷ [] = next ∙ rw k in
-            let U = pair-more (listingOf new) (listingOf old) (joined ns (take j os)) m pairs own j count (P .up) (P .count-is)
-            (own-is ∙ unfound m ns (omega arith)) (rw e (method-place old to wo O j here)) (omega (arith, P .few .0, P .few .1, P .few .2)) in
+            let U = pair-more os ns (joined ns (take j os)) m pairs j own count (P .up) (P .count-is)
+            (rw e (sym (once j here))) (own-is ∙ unfound m ns (omega arith)) (omega (arith, P .few .0, P .few .1, P .few .2)) in
             record {
               up = rw d U;
               count-is = rw d (omega (arith, P .count-is, length-snoc (joined ns (take j os)) m));
@@ -219,7 +184,7 @@ module _ (new : Text) (tn : Tally) (wn : List ℕ) (N : Holds new tn wn) (old : 
         whole : take j os ≡ os
         whole = let z : j ≡ length os = omega (arith, P .so-far) in rw (z, take-length os)
 
-        pub old-end : PairedUp (listingOf new) (listingOf old) (joined ns os) pairs
+        pub old-end : PairedUp os ns (joined ns os) pairs
         old-end = rw whole at (P .up)
 
         pub old-count : count ≡ length (joined ns os)
@@ -227,25 +192,25 @@ module _ (new : Text) (tn : Tally) (wn : List ℕ) (N : Holds new tn wn) (old : 
 
   -- ---- and the filler method
   abbrev filler : Text
-  filler = fillerMethodOf (listingOf new) (listingOf old)
+  filler = fillerMethod (ns ++ os)
 
-  -- a listing that doesn't name it has the number of its methods for its place
+  -- where it is not named it has the number of the methods for its place
   filler-place : (us : List Text) → member filler us ≡ false → length us ≡ indexOf filler us
   filler-place us e = unfound filler us (ltb-false (indexOf filler us) (length us) (index-member filler us ∙ e))
 
   -- it stands last
-  pub all-paired : (a b : ℕ) → a ≡ length ns → b ≡ length os → (pairs : List ℕ) (count : ℕ) → PairedUp (listingOf new) (listingOf old) (joined ns os) pairs
-      → count ≡ length (joined ns os) → PairsOf (listingOf new) (listingOf old) (withPair count a b pairs) (count + 1)
-  unfolding trialMethods
-  all-paired a b a-is b-is pairs count U c =
-      let u = method-of-unnamed (listingOf new) (listingOf old) (proper new tn wn N) (proper old to wo O) in
-      let p : a ≡ indexOf filler ns = a-is ∙ filler-place ns (u .0) in
-      let q : b ≡ indexOf filler os = b-is ∙ filler-place os (u .1) in
+  pub all-paired : length os ≤ 31 → length ns ≤ 31 → (a b : ℕ) → a ≡ length os → b ≡ length ns → (pairs : List ℕ) (count : ℕ) → PairedUp os ns (joined ns os) pairs
+      → count ≡ length (joined ns os) → PairsOf os ns (withPair count a b pairs) (count + 1)
+  unfolding methodsTried
+  all-paired h l a b a-is b-is pairs count U c =
+      let u = unnamed-in-both os ns h l in
+      let p : a ≡ indexOf filler os = a-is ∙ filler-place os (u .1) in
+      let q : b ≡ indexOf filler ns = b-is ∙ filler-place ns (u .0) in
       let z : count + 1 ≡ length (joined ns os ++ filler ∷ []) = omega (arith, length-snoc (joined ns os) filler) in
       record {
-        size = pair-size (listingOf new) (listingOf old) (joined ns os) filler pairs a b count U c p q;
+        size = pair-size os ns (joined ns os) filler pairs a b count U c p q;
         all = z;
         few = omega (arith, U .few);
-        firsts = λ i h. more-firsts ns (joined ns os) filler pairs a b count (U .size) c (omega (arith, U .few)) p (U .firsts) i (omega arith);
-        seconds = λ i h. more-seconds os (joined ns os) filler pairs a b count (U .size) c (omega (arith, U .few)) q (U .seconds) i (omega arith);
+        olds = λ i h. more-firsts os (joined ns os) filler pairs a b count (U .size) c (omega (arith, U .few)) p (U .olds) i (omega arith);
+        news = λ i h. more-seconds ns (joined ns os) filler pairs a b count (U .size) c (omega (arith, U .few)) q (U .news) i (omega arith);
       }

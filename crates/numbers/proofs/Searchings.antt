@@ -11,21 +11,16 @@ use lib.Seq.{take-all, drop-cons, length-take-le}
 use lib.Dec.{eqb, ltb, leb}
 use borrow.Author.Tests.{lt-ltb, le-ltb, eq-eqb, ne-eqb, le-leb, lt-leb, not-true, not-false}
 use Rattle.text.specs.Texts.{Text, bytes, part, same, startsWith, endsWith, indexOf, run}
-use Rattle.listings.specs.Patterns.{PatternKind, exact, prefix, extension, default, unpermitted, kindOf, isExtension, isPermitted, Shape}
-use Rattle.listings.specs.Listings.{listingOf, patternsOf}
-use Rattle.listings.proofs.Plainly.{shape, starts-plain}
-use Rattle.listings.proofs.Namings.{starred-long}
-use Rattle.deciding.proofs.Matchings.{ended-strength}
+use Rattle.names.specs.Patterns.{PatternKind, exact, prefix, extension, default, unpermitted, kindOf, isExtension, isPermitted, Shape}
+use Rattle.names.proofs.Plainly.{shape, starts-plain}
+use Rattle.names.proofs.Namings.{starred-long}
+use Rattle.matching.proofs.Matchings.{ended-strength}
 use Rattle.text.proofs.Indices.{run-step}
 use Rattle.text.proofs.Truths.{never, not-so, and-left, and-right}
 use Rattle.text.proofs.Spans.{same-equal, same-self, from-on}
-use Rattle.reading.specs.Holds.{Holds}
-use Rattle.reading.specs.declared.tables.Tally.{Tally}
-use Rattle.listings.specs.Propers.{Proper}
-use Rattle.reading.proofs.Accepted.{accepted-proper}
 use Rattle.decisions.specs.Matching.{isUnder}
-use Rattle.deciding.specs.Strengths.{strength, startLeading, leadBy, lead, leading}
-use Rattle.deciding.specs.declared.joining.Leading.{Leading}
+use Rattle.matching.specs.Strengths.{strength, startLeading, leadBy, lead, leading}
+use Rattle.matching.specs.declared.Leading.{Leading}
 use Rattle.grants.specs.Scratch.{placed, belowStrength, endStrength, stemStrength, leadingBy}
 
 -- ---- the line of a text

@@ -10,24 +10,22 @@ use lib.Seq.{getD-append-add, getD-set-same, getD-set-other}
 use lib.Dec.{eqb, ltb, leb, leb·suc-suc, leb·zero}
 use borrow.Author.Tests.{lt-ltb, le-ltb, ltb-true, ltb-false, le-leb, lt-leb, leb-true, leb-false, eq-eqb, ne-eqb}
 use Rattle.text.specs.Texts.{Text, bytes, part, same, startsWith, endsWith, member, indexOf, run}
-use Rattle.listings.specs.Patterns.{PatternKind, exact, prefix, extension, default, unpermitted, kindOf, isExtension, isPermitted}
-use Rattle.listings.specs.Names.{madeOf, isPattern}
+use Rattle.names.specs.Patterns.{PatternKind, exact, prefix, extension, default, unpermitted, kindOf, isExtension, isPermitted}
+use Rattle.names.specs.Names.{madeOf, isPattern}
 use Rattle.text.specs.Bytes.{isText}
-use Rattle.listings.specs.Listings.{Listing, listingOf, patternsOf}
 use Rattle.text.proofs.Truths.{never, not-so, and-left, and-right}
 use Rattle.text.proofs.Spans.{same-equal, same-self}
 use Rattle.text.proofs.Indices.{index-bound, index-member, index-front, member-at}
-use Rattle.listings.proofs.Plainly.{member-append}
+use Rattle.names.proofs.Plainly.{member-append}
 use Rattle.reading.specs.Holds.{Holds}
-use Rattle.reading.specs.declared.tables.Tally.{Tally}
-use Rattle.listings.specs.Propers.{Proper}
-use Rattle.reading.proofs.Accepted.{accepted-proper}
-use Rattle.deciding.specs.Strengths.{kindStrength, startLeading, leadBy}
-use Rattle.deciding.specs.declared.joining.Leading.{Leading}
-use Rattle.deciding.proofs.Strengths.{at-listed}
-use Rattle.grants.specs.Scratch.{placed, sortOf, stemStrength, leadingBy, stemPlace, textsOf}
+use Rattle.reading.specs.Views.{texts, viewAt}
+use Rattle.entries.specs.declared.tables.Tally.{Tally}
+use Rattle.matching.specs.Strengths.{kindStrength, startLeading, leadBy}
+use Rattle.matching.specs.declared.Leading.{Leading}
+use Rattle.matching.proofs.Strengths.{at-listed}
+use Rattle.grants.specs.Scratch.{placed, sortOf, stemStrength, leadingBy, stemPlace}
 use Rattle.grants.proofs.OwnStems.{own-first}
-use Rattle.numbers.specs.Writes.{Kept, Both, BothLent}
+use Rattle.numbers.specs.Writes.{Kept, Both, BothLent, oldTexts, newTexts}
 use Rattle.numbers.specs.Stemming.{standsFirm, seenInNew, seenInOld, putStem, stemIn, StemIs, StemsWritten}
 use Rattle.numbers.specs.declared.pairs.Pair.{Pair}
 use Rattle.numbers.specs.declared.stems.Stem.{Stem}
@@ -110,25 +108,22 @@ led-at g (t ∷ ts) x h = let r = led-at g ts (leadBy x (g t)) (go (ltb (x .most
     go false = omega arith
 
 module _ (s : Text) (t : Tally) (w : List ℕ) (H : Holds s t w) where
-  proper : Proper (listingOf s)
-  proper = accepted-proper s (H .accepts)
-
   abbrev ts : List Text
-  ts = patternsOf (listingOf s)
+  ts = texts (viewAt s t w)
 
   pub led-small : (g : Text → ℕ) (x : Leading) → x ≡ leadingBy g ts → x .at < 1000
   unfolding leadingBy
   led-small g x e =
       let r = led-at g ts startLeading (omega arith) in
       let q : x .at ≡ leadingBy g ts .at = ap (λ (y : Leading). y .at) e in
-      omega (arith, proper .few-patterns)
+      omega (arith, H .proper .few-patterns)
 
   -- the lines are few, and so is the place of a text among them
   pub lines-few : (n : ℕ) → n ≡ length ts → n ≤ 128
-  lines-few n e = omega (arith, proper .few-patterns)
+  lines-few n e = omega (arith, H .proper .few-patterns)
 
   pub index-few : (u : Text) (k : ℕ) → k ≡ indexOf u ts → k ≤ 128
-  index-few u k e = omega (arith, proper .few-patterns, index-bound u ts)
+  index-few u k e = omega (arith, H .proper .few-patterns, index-bound u ts)
 
   -- a text's own line
   pub own-is : (u : Text) (k n p : ℕ) (r : Bool) → k ≡ indexOf u ts → n ≡ length ts → r ≡ standsFirm u k n → r ≡ true → p ≡ 2 * (k + 1) + 1 → p ≡ stemPlace ts (kindOf u)
@@ -139,7 +134,7 @@ module _ (s : Text) (t : Tally) (w : List ℕ) (H : Holds s t w) where
       go true l f = absurd (never false f refl)
       go false l f =
           let m : member u ts ≡ true = sym (index-member u ts) ∙ lt-ltb (indexOf u ts) (length ts) (omega (arith, leb-false n k l)) in
-          z ∙ rw e (sym (own-first ts (proper .short-patterns) u m (leb-true 3 (kindStrength (kindOf u)) f)))
+          z ∙ rw e (sym (own-first ts (H .proper .short-patterns) u m (leb-true 3 (kindStrength (kindOf u)) f)))
 
 -- what was found by searching
 pub searched : (us : List Text) (u : Text) (x : Leading) (r : ℕ) → x ≡ leadingBy (stemStrength (kindOf u)) us → r ≡ placed x → r ≡ stemPlace us (kindOf u)
@@ -184,11 +179,11 @@ index-past t (u ∷ us) vs h = go (same u t) h (index-past t us vs)
     go true h again = absurd (omega arith)
     go false h again = let z = again (omega arith) in omega arith
 
-module _ (old new : Listing) (t : Text) (i n j : ℕ) (i-is : i ≡ indexOf t (patternsOf new)) (n-is : n ≡ length (patternsOf new)) (l : j ≤ length (textsOf old new)) (a : Bool) (a-is : a ≡ seenInNew i n j) where
+module _ (os ns : List Text) (t : Text) (i n j : ℕ) (i-is : i ≡ indexOf t ns) (n-is : n ≡ length ns) (l : j ≤ length (ns ++ os)) (a : Bool) (a-is : a ≡ seenInNew i n j) where
   abbrev before : Bool
-  before = member t (take j (textsOf old new))
+  before = member t (take j (ns ++ os))
 
-  stem-again : before ≡ true → StemIs old new t j (record { sort = 0; in_old = 0; in_new = 0 })
+  stem-again : before ≡ true → StemIs os ns t j (record { sort = 0; in_old = 0; in_new = 0 })
   stem-again e = record {
     sort = rw e;
     in-old = λ f. absurd (never before e f);
@@ -197,30 +192,30 @@ module _ (old new : Listing) (t : Text) (i n j : ℕ) (i-is : i ≡ indexOf t (p
 
   found : i < n → before ≡ ltb i j
   found h =
-      let e : indexOf t (textsOf old new) ≡ i = index-front t (patternsOf new) (patternsOf old) (omega arith) ∙ sym i-is in
-      sym (index-take t (textsOf old new) j l) ∙ ap (λ (k : ℕ). ltb k j) e
+      let e : indexOf t (ns ++ os) ≡ i = index-front t ns os (omega arith) ∙ sym i-is in
+      sym (index-take t (ns ++ os) j l) ∙ ap (λ (k : ℕ). ltb k j) e
 
   -- new has it before
-  pub again-new : a ≡ true → StemIs old new t j (record { sort = 0; in_old = 0; in_new = 0 })
+  pub again-new : a ≡ true → StemIs os ns t j (record { sort = 0; in_old = 0; in_new = 0 })
   unfolding seenInNew
   again-new h = go (leb n i) refl (sym a-is ∙ h)
     where
-      go : (b : Bool) → leb n i ≡ b → cond b false (ltb i j) ≡ true → StemIs old new t j (record { sort = 0; in_old = 0; in_new = 0 })
+      go : (b : Bool) → leb n i ≡ b → cond b false (ltb i j) ≡ true → StemIs os ns t j (record { sort = 0; in_old = 0; in_new = 0 })
       go true e f = absurd (never false f refl)
       go false e f = stem-again (found (leb-false n i e) ∙ f)
 
-  module _ (a-no : a ≡ false) (k : ℕ) (k-is : k ≡ indexOf t (patternsOf old)) (b : Bool) (b-is : b ≡ seenInOld i n k j) where
+  module _ (a-no : a ≡ false) (k : ℕ) (k-is : k ≡ indexOf t os) (b : Bool) (b-is : b ≡ seenInOld i n k j) where
     lacked : n ≤ i → before ≡ ltb (n + k) j
     lacked h =
-        let e : indexOf t (textsOf old new) ≡ n + k = index-past t (patternsOf new) (patternsOf old) (omega arith) ∙ omega arith in
-        sym (index-take t (textsOf old new) j l) ∙ ap (λ (m : ℕ). ltb m j) e
+        let e : indexOf t (ns ++ os) ≡ n + k = index-past t ns os (omega arith) ∙ omega arith in
+        sym (index-take t (ns ++ os) j l) ∙ ap (λ (m : ℕ). ltb m j) e
 
     -- old has it before, and new hasn't it
-    pub again-old : b ≡ true → StemIs old new t j (record { sort = 0; in_old = 0; in_new = 0 })
+    pub again-old : b ≡ true → StemIs os ns t j (record { sort = 0; in_old = 0; in_new = 0 })
     unfolding seenInOld
     again-old h = go (ltb i n) refl (sym b-is ∙ h)
       where
-        go : (c : Bool) → ltb i n ≡ c → cond c false (ltb (n + k) j) ≡ true → StemIs old new t j (record { sort = 0; in_old = 0; in_new = 0 })
+        go : (c : Bool) → ltb i n ≡ c → cond c false (ltb (n + k) j) ≡ true → StemIs os ns t j (record { sort = 0; in_old = 0; in_new = 0 })
         go true e f = absurd (never false f refl)
         go false e f = stem-again (lacked (ltb-false i n e) ∙ f)
 
@@ -233,32 +228,32 @@ module _ (old new : Listing) (t : Text) (i n j : ℕ) (i-is : i ≡ indexOf t (p
         go (yes m) = found m ∙ sym (rw (lt-leb n i m) at a-is) ∙ a-no
         go (no m) = let p : n ≤ i = omega arith in lacked p ∙ sym (rw (le-ltb i n p) at b-is) ∙ h
 
-    pub stem-fresh : b ≡ false → (x y z : ℕ) → x ≡ sortOf (kindOf t) → y ≡ stemPlace (patternsOf old) (kindOf t) → z ≡ stemPlace (patternsOf new) (kindOf t)
-        → StemIs old new t j (record { sort = x; in_old = y; in_new = z })
+    pub stem-fresh : b ≡ false → (x y z : ℕ) → x ≡ sortOf (kindOf t) → y ≡ stemPlace os (kindOf t) → z ≡ stemPlace ns (kindOf t)
+        → StemIs os ns t j (record { sort = x; in_old = y; in_new = z })
     stem-fresh h x y z p q r = record { sort = p ∙ rw (fresh h); in-old = λ f. q; in-new = λ f. r }
 
 -- the stem of a line
-pub stem-moved : (old new : Listing) (t u : Text) (j : ℕ) (x : Stem) → t ≡ u → StemIs old new t j x → StemIs old new u j x
-stem-moved old new t u j x e S = subst (λ (v : Text). StemIs old new v j x) e S
+pub stem-moved : (os ns : List Text) (t u : Text) (j : ℕ) (x : Stem) → t ≡ u → StemIs os ns t j x → StemIs os ns u j x
+stem-moved os ns t u j x e S = subst (λ (v : Text). StemIs os ns v j x) e S
 
--- the texts of both listings are permitted
-permitted-in : (s : Text) (t : Tally) (w : List ℕ) → Holds s t w → (i : ℕ) → i < length (patternsOf (listingOf s)) → isPermitted (kindOf (getD (patternsOf (listingOf s)) i [])) ≡ true
+-- the texts of both are permitted
+permitted-in : (s : Text) (t : Tally) (w : List ℕ) → Holds s t w → (i : ℕ) → i < length (texts (viewAt s t w)) → isPermitted (kindOf (getD (texts (viewAt s t w)) i [])) ≡ true
 unfolding isPattern
 permitted-in s t w H i h =
-    let ts : List Text = patternsOf (listingOf s) in
-    let g = accepted-proper s (H .accepts) .good-patterns (getD ts i []) (at-listed ts i h) in
+    let ts : List Text = texts (viewAt s t w) in
+    let g = H .proper .good-patterns (getD ts i []) (at-listed ts i h) in
     let u : Text = getD ts i [] in
     and-right (not (endsWith (bytes " ") u)) (isPermitted (kindOf u)) (and-right (madeOf isText 0 255 u) (not (endsWith (bytes " ") u) && isPermitted (kindOf u)) g)
 
-pub permitted-at : (old new : Text) (wo wn : List ℕ) (pair : Pair) → Both old new wo wn pair → (t : Text) (j : ℕ) → j < length (textsOf (listingOf old) (listingOf new))
-    → t ≡ getD (textsOf (listingOf old) (listingOf new)) j [] → isPermitted (kindOf t) ≡ true
+pub permitted-at : (old new : Text) (wo wn : List ℕ) (pair : Pair) → Both old new wo wn pair → (t : Text) (j : ℕ) → j < length (newTexts new wn pair ++ oldTexts old wo pair)
+    → t ≡ getD (newTexts new wn pair ++ oldTexts old wo pair) j [] → isPermitted (kindOf t) ≡ true
 permitted-at old new wo wn pair B t j h e = go (decLt j (length us))
   where
     us : List Text
-    us = patternsOf (listingOf new)
+    us = newTexts new wn pair
 
     vs : List Text
-    vs = patternsOf (listingOf old)
+    vs = oldTexts old wo pair
 
     go : Dec (j < length us) → isPermitted (kindOf t) ≡ true
     go (yes l) = ap (λ (u : Text). isPermitted (kindOf u)) (e ∙ List·getD-append us vs [] j l) ∙ permitted-in new (pair .new) wn (B .news) j l

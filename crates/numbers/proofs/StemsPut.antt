@@ -1,5 +1,5 @@
 -- The stems in the work table: laws in the shape of the code.
-use mathlib.Core.Path.{_≡_, refl, sym, ap, subst, _∙_}
+use mathlib.Core.Path.{_≡_, sym, ap, ap₂, subst, _∙_}
 use mathlib.Core.List.{List, [], _++_}
 use Prim.Native.Nat.{ℕ, _+_, _-_, _≤_, _<_}
 use native.Mathlib.Omega.{arith}
@@ -7,16 +7,14 @@ use native.Mathlib.Decide.{decLt}
 use lib.ListN.{length, getD, set, length-append, length-set}
 use lib.Seq.{getD-set-same, getD-set-other}
 use Rattle.text.specs.Texts.{Text, part}
-use Rattle.listings.specs.Listings.{Listing, listingOf, patternsOf}
-use Rattle.listings.specs.Patterns.{default}
-use Rattle.listings.specs.Propers.{Proper}
-use Rattle.reading.proofs.Accepted.{accepted-proper}
-use Rattle.grants.specs.Scratch.{stemPlace, textsOf}
-use Rattle.numbers.specs.Writes.{Kept, Both, BothLent}
-use Rattle.numbers.specs.Stemming.{putStem, stemIn, lastStem, StemIs, StemsWritten, AllStems}
+use Rattle.names.specs.Patterns.{default}
+use Rattle.reading.specs.Views.{texts}
+use Rattle.grants.specs.Scratch.{stemPlace}
+use Rattle.numbers.specs.Writes.{Kept, Both, BothLent, oldView, newView}
+use Rattle.numbers.specs.Stemming.{putStem, stemIn, lastStem, StemIs, StemOf, StemsWritten, AllStems}
 use Rattle.numbers.specs.declared.pairs.Pair.{Pair}
 use Rattle.numbers.specs.declared.stems.Stem.{Stem}
-use Rattle.numbers.proofs.Writings.{kept-all, kept-set, kept-then}
+use Rattle.numbers.proofs.Writings.{kept-all, kept-set, olds-still, news-still}
 use Rattle.numbers.proofs.PairsPut.{both-still}
 
 -- ---- one stem
@@ -61,27 +59,37 @@ module _ (at j : ℕ) (x : Stem) (w : List ℕ) (few : j ≤ 256) where
 
 -- ---- all lines
 module _ (old new : Text) (pair : Pair) (at : ℕ) where
-  abbrev ol : Listing
-  ol = listingOf old
+  -- the pattern texts that are held
+  abbrev ol : List ℕ → List Text
+  ol w = texts (oldView old w pair)
 
-  abbrev nl : Listing
-  nl = listingOf new
+  abbrev nl : List ℕ → List Text
+  nl w = texts (newView new w pair)
 
-  texts-few : (w : List ℕ) → BothLent old new pair at 2048 w → length (textsOf ol nl) ≤ 256
-  texts-few w B =
-      omega (arith, length-append (patternsOf nl) (patternsOf ol), accepted-proper old (B .both .olds .accepts) .few-patterns, accepted-proper new (B .both .news .accepts) .few-patterns)
+  texts-few : (w : List ℕ) → BothLent old new pair at 2048 w → length (nl w ++ ol w) ≤ 256
+  texts-few w B = omega (arith, length-append (nl w) (ol w), B .both .olds .proper .few-patterns, B .both .news .proper .few-patterns)
+
+  -- they are still those that were held first
+  module _ (w₀ w : List ℕ) (B : BothLent old new pair at 2048 w) (K : Kept (at + 1152) (at + 2048) w₀ w) where
+    olds-same : ol w ≡ ol w₀
+    olds-same = ap texts (olds-still old pair (at + 1152) (at + 2048) w₀ w K (omega (arith, B .clear)) (omega (arith, B .clear, B .room, K .size)))
+
+    news-same : nl w ≡ nl w₀
+    news-same = ap texts (news-still new pair (at + 1152) (at + 2048) w₀ w K (omega (arith, B .clear)) (omega (arith, B .clear, B .room, K .size)))
 
   -- j of n are written
   pub record StemmingTo (n j : ℕ) (w₀ w : List ℕ) : Type 0 where
+    pub all : n ≡ length (nl w₀ ++ ol w₀)
     pub lent : BothLent old new pair at 2048 w
-    pub written : StemsWritten ol nl at j w₀ w
+    pub written : StemsWritten (ol w₀) (nl w₀) at j w₀ w
     pub so-far : j ≤ n
     pub few : n ≤ 256
 
-  module _ (n : ℕ) (n-is : n ≡ length (textsOf ol nl)) where
+  module _ (n : ℕ) where
     -- none yet
-    pub stems-start : (w : List ℕ) → BothLent old new pair at 2048 w → StemmingTo n 0 w w
-    stems-start w B = record {
+    pub stems-start : (w : List ℕ) → BothLent old new pair at 2048 w → n ≡ length (nl w ++ ol w) → StemmingTo n 0 w w
+    stems-start w B e = record {
+      all = e;
       lent = B;
       written = record { kept = kept-all (at + 1152) (at + 2048) w; stems = λ j h. absurd (omega arith) };
       so-far = omega arith;
@@ -89,9 +97,20 @@ module _ (old new : Text) (pair : Pair) (at : ℕ) where
     }
 
     module _ (j : ℕ) (w₀ w : List ℕ) (S : StemmingTo n j w₀ w) where
+      abbrev os : List Text
+      os = ol w₀
+
+      abbrev ns : List Text
+      ns = nl w₀
+
+      -- line j is one of both
+      pub stem-there : j < n → j < length (nl w ++ ol w)
+      stem-there h = rw (olds-same w₀ w (S .lent) (S .written .kept), news-same w₀ w (S .lent) (S .written .kept)) (omega (arith, S .all))
+
       -- one more
-      pub stems-more : (x : Stem) (v : List ℕ) → j < n → StemIs ol nl (getD (textsOf ol nl) j []) j x → v ≡ putStem at j x w → StemmingTo n (j + 1) w₀ v
-      stems-more x v h X p = subst (StemmingTo n (j + 1) w₀) (sym p) (record {
+      pub stems-more : (x : Stem) (v : List ℕ) → j < n → StemOf (ol w) (nl w) j x → v ≡ putStem at j x w → StemmingTo n (j + 1) w₀ v
+      stems-more x v h X′ p = subst (StemmingTo n (j + 1) w₀) (sym p) (record {
+        all = S .all;
         lent = both-still old new pair at 2048 (at + 1152) (at + 2048) w (putStem at j x w) (S .lent) (put-kept at j x w small w (kept-all (at + 1152) (at + 2048) w)) (omega (arith, S .lent .clear));
         written = record { kept = put-kept at j x w small w₀ (S .written .kept); stems = λ i l. go i l (decLt i j) };
         so-far = omega arith;
@@ -101,39 +120,41 @@ module _ (old new : Text) (pair : Pair) (at : ℕ) where
           small : j ≤ 256
           small = omega (arith, S .few)
 
-          go : (i : ℕ) → i < j + 1 → Dec (i < j) → StemIs ol nl (getD (textsOf ol nl) i []) i (stemIn at i (putStem at j x w))
-          go i l (yes q) = subst (StemIs ol nl (getD (textsOf ol nl) i []) i) (sym (put-other at j x w small i q)) (S .written .stems i q)
+          X : StemIs os ns (getD (ns ++ os) j []) j x
+          X = rw (olds-same w₀ w (S .lent) (S .written .kept), news-same w₀ w (S .lent) (S .written .kept)) at X′
+
+          go : (i : ℕ) → i < j + 1 → Dec (i < j) → StemIs os ns (getD (ns ++ os) i []) i (stemIn at i (putStem at j x w))
+          go i l (yes q) = subst (StemIs os ns (getD (ns ++ os) i []) i) (sym (put-other at j x w small i q)) (S .written .stems i q)
           go i l (no q) =
               let e : i ≡ j = omega arith in
-              rw e (subst (StemIs ol nl (getD (textsOf ol nl) j []) j) (sym (put-here at j x w small (S .lent .room))) X)
+              rw e (subst (StemIs os ns (getD (ns ++ os) j []) j) (sym (put-here at j x w small (S .lent .room))) X)
 
-      pub stems-all : n ≤ j → StemsWritten ol nl at n w₀ w
+      pub stems-all : n ≤ j → StemsWritten os ns at n w₀ w
       stems-all h = let e : j ≡ n = omega (arith, S .so-far) in rw e at (S .written)
 
-    pub lines-few : (w : List ℕ) → BothLent old new pair at 2048 w → n ≤ 256
-    lines-few w B = omega (arith, texts-few w B)
-
     -- ---- and the last
-    module _ (w₀ : List ℕ) (B : BothLent old new pair at 2048 w₀) (w : List ℕ) (S : StemsWritten ol nl at n w₀ w) where
-      pub last-lent : BothLent old new pair at 2048 w
-      last-lent = both-still old new pair at 2048 (at + 1152) (at + 2048) w₀ w B (S .kept) (omega (arith, B .clear))
+    module _ (w₀ : List ℕ) (B : BothLent old new pair at 2048 w₀) (n-is : n ≡ length (nl w₀ ++ ol w₀)) where
+      pub lines-few : n ≤ 256
+      lines-few = omega (arith, texts-few w₀ B)
 
-      pub last-both : Both old new (part 0 1024 w) (part 1024 2048 w) pair
-      last-both = last-lent .both
+      module _ (w : List ℕ) (S : StemsWritten (ol w₀) (nl w₀) at n w₀ w) where
+        last-lent : BothLent old new pair at 2048 w
+        last-lent = both-still old new pair at 2048 (at + 1152) (at + 2048) w₀ w B (S .kept) (omega (arith, B .clear))
 
-      pub last-room : at + 2048 ≤ length w
-      last-room = last-lent .room
+        pub last-both : Both old new (part 0 1024 w) (part 1024 2048 w) pair
+        last-both = last-lent .both
 
-      last-few : n ≤ 256
-      last-few = omega (arith, texts-few w₀ B)
+        pub last-room : at + 2048 ≤ length w
+        last-room = last-lent .room
 
-      pub stems-last : (x : Stem) (v : List ℕ) → x ≡ lastStem ol nl → v ≡ putStem at n x w → AllStems ol nl at w₀ v
-      stems-last x v e p = subst (AllStems ol nl at w₀) (sym p) (record {
-        kept = put-kept at n x w last-few w₀ (S .kept);
-        stems = λ i l. let q : i < n = omega arith in subst (StemIs ol nl (getD (textsOf ol nl) i []) i) (sym (put-other at n x w last-few i q)) (S .stems i q);
-        last = ap (λ (k : ℕ). stemIn at k (putStem at n x w)) (sym n-is) ∙ put-here at n x w last-few (last-lent .room) ∙ e;
-      })
+        pub stems-last : (x : Stem) (v : List ℕ) → x ≡ lastStem (ol w) (nl w) → v ≡ putStem at n x w → AllStems (ol w₀) (nl w₀) at w₀ v
+        stems-last x v e p = subst (AllStems (ol w₀) (nl w₀) at w₀) (sym p) (record {
+          kept = put-kept at n x w lines-few w₀ (S .kept);
+          stems = λ i l. let q : i < n = omega arith in subst (StemIs (ol w₀) (nl w₀) (getD (nl w₀ ++ ol w₀) i []) i) (sym (put-other at n x w lines-few i q)) (S .stems i q);
+          last = ap (λ (k : ℕ). stemIn at k (putStem at n x w)) (sym n-is) ∙ put-here at n x w lines-few (last-lent .room) ∙ e
+              ∙ ap₂ lastStem (olds-same w₀ w last-lent (S .kept)) (news-same w₀ w last-lent (S .kept));
+        })
 
-pub last-is : (old new : Listing) (a b : ℕ) → a ≡ stemPlace (patternsOf old) default → b ≡ stemPlace (patternsOf new) default → record { sort = 1; in_old = a; in_new = b } ≡ lastStem old new
+pub last-is : (os ns : List Text) (a b : ℕ) → a ≡ stemPlace os default → b ≡ stemPlace ns default → record { sort = 1; in_old = a; in_new = b } ≡ lastStem os ns
 unfolding lastStem
-last-is old new a b p q = rw (p, q)
+last-is os ns a b p q = rw (p, q)

@@ -2,14 +2,13 @@
 use Prim.Native.Nat.{ℕ, _+_, _≤_, _<_}
 use mathlib.Core.Path.{_≡_}
 use mathlib.Core.Bool.{Bool, true, false, cond}
-use mathlib.Core.List.{List, []}
+use mathlib.Core.List.{List, [], _++_}
 use lib.ListN.{length, getD, set, take}
 use lib.Dec.{ltb, leb}
 use Rattle.text.specs.Texts.{Text, member}
-use Rattle.listings.specs.Listings.{Listing, patternsOf}
-use Rattle.listings.specs.Patterns.{default, kindOf}
-use Rattle.deciding.specs.Strengths.{kindStrength}
-use Rattle.grants.specs.Scratch.{sortOf, sorted, stemPlace, textsOf}
+use Rattle.names.specs.Patterns.{default, kindOf}
+use Rattle.matching.specs.Strengths.{kindStrength}
+use Rattle.grants.specs.Scratch.{sortOf, sorted, stemPlace}
 use Rattle.numbers.specs.Writes.{Kept}
 use Rattle.numbers.specs.declared.stems.Stem.{Stem}
 
@@ -26,11 +25,15 @@ seenInNew i n j = cond (leb n i) false (ltb i j)
 unfoldable pub seenInOld : ℕ → ℕ → ℕ → ℕ → Bool
 seenInOld i n k j = cond (ltb i n) false (ltb (n + k) j)
 
--- x is the stem of the text t at line j: its sort alone where t stands before
-pub record StemIs (old new : Listing) (t : Text) (j : ℕ) (x : Stem) : Type 0 where
-  pub sort : x .sort ≡ cond (member t (take j (textsOf old new))) 0 (sortOf (kindOf t))
-  pub in-old : member t (take j (textsOf old new)) ≡ false → x .in_old ≡ stemPlace (patternsOf old) (kindOf t)
-  pub in-new : member t (take j (textsOf old new)) ≡ false → x .in_new ≡ stemPlace (patternsOf new) (kindOf t)
+-- x is the stem of the text t at line j of both, whose pattern texts are os and ns: its sort alone where t stands before
+pub record StemIs (os ns : List Text) (t : Text) (j : ℕ) (x : Stem) : Type 0 where
+  pub sort : x .sort ≡ cond (member t (take j (ns ++ os))) 0 (sortOf (kindOf t))
+  pub in-old : member t (take j (ns ++ os)) ≡ false → x .in_old ≡ stemPlace os (kindOf t)
+  pub in-new : member t (take j (ns ++ os)) ≡ false → x .in_new ≡ stemPlace ns (kindOf t)
+
+-- x is the stem of line j of both
+abbrev pub StemOf : List Text → List Text → ℕ → Stem → Type 0
+StemOf os ns j x = StemIs os ns (getD (ns ++ os) j []) j x
 
 -- stem j in the scratch from place at on
 abbrev pub putStem : ℕ → ℕ → Stem → List ℕ → List ℕ
@@ -41,17 +44,17 @@ abbrev pub stemIn : ℕ → ℕ → List ℕ → Stem
 stemIn at j w = record { sort = getD w (at + 1666 + j) 0; in_old = getD w (at + 1152 + j) 0; in_new = getD w (at + 1409 + j) 0 }
 
 -- the first n stems of the lines
-pub record StemsWritten (old new : Listing) (at n : ℕ) (w₀ w : List ℕ) : Type 0 where
+pub record StemsWritten (os ns : List Text) (at n : ℕ) (w₀ w : List ℕ) : Type 0 where
   pub kept : Kept (at + 1152) (at + 2048) w₀ w
-  pub stems : (j : ℕ) → j < n → StemIs old new (getD (textsOf old new) j []) j (stemIn at j w)
+  pub stems : (j : ℕ) → j < n → StemIs os ns (getD (ns ++ os) j []) j (stemIn at j w)
 
 -- the stem of `/`filler
-unfoldable pub lastStem : Listing → Listing → Stem
+unfoldable pub lastStem : List Text → List Text → Stem
 unfolding stemPlace
-lastStem old new = record { sort = 1; in_old = stemPlace (patternsOf old) default; in_new = stemPlace (patternsOf new) default }
+lastStem os ns = record { sort = 1; in_old = stemPlace os default; in_new = stemPlace ns default }
 
 -- all of them
-pub record AllStems (old new : Listing) (at : ℕ) (w₀ w : List ℕ) : Type 0 where
+pub record AllStems (os ns : List Text) (at : ℕ) (w₀ w : List ℕ) : Type 0 where
   pub kept : Kept (at + 1152) (at + 2048) w₀ w
-  pub stems : (j : ℕ) → j < length (textsOf old new) → StemIs old new (getD (textsOf old new) j []) j (stemIn at j w)
-  pub last : stemIn at (length (textsOf old new)) w ≡ lastStem old new
+  pub stems : (j : ℕ) → j < length (ns ++ os) → StemIs os ns (getD (ns ++ os) j []) j (stemIn at j w)
+  pub last : stemIn at (length (ns ++ os)) w ≡ lastStem os ns

@@ -1,12 +1,10 @@
-// The trial methods, as pairs from `at` on: the number of each among new's methods, and 64 places on its number among old's.
+// The trial methods, as pairs from `at` on: the number of each among old's methods, and 64 places on its number among new's.
 ghost use mathlib.Core.Path.{_≡_};
 ghost use Prim.Native.Nat.{_+_, _≤_, _<_};
 ghost use lib.ListN.{length};
 ghost use Rattle.text.specs.Texts.{part};
-ghost use Rattle.listings.specs.Listings.{listingOf};
-ghost use Rattle.trials.specs.Trials.{joined};
 ghost use Rattle.grants.specs.Sides.{PairedUp};
-ghost use Rattle.numbers.specs.Writes.{BothLent, PairsWritten, MethodsWritten, putPair};
+ghost use Rattle.numbers.specs.Writes.{BothLent, PairsWritten, MethodsWritten, oldMethods, newMethods, named, putPair};
 use crate::pairs::Pair;
 use reading::held;
 
@@ -22,23 +20,23 @@ pub fn put_pair(w: &mut [u32], at: usize, n: usize, a: usize, b: usize)
 // Those of new.
 pub fn pair_new(old: &[u8], new: &[u8], w: &mut [u32], pair: Pair, at: usize)
     requires { ⌜ BothLent (now old) (now new) pair at 128 (now w) ⌝ }
-    ensures { λ _. ⌜ PairsWritten (listingOf (now (old .entry))) (listingOf (now (new .entry))) (listingOf (now (new .entry)) .methods) at (now (w .entry)) (now (w .exit)) ⌝ }
+    ensures { λ _. ⌜ PairsWritten (oldMethods (now (old .entry)) (now (w .entry)) pair) (newMethods (now (new .entry)) (now (w .entry)) pair) (newMethods (now (new .entry)) (now (w .entry)) pair) at (now (w .entry)) (now (w .exit)) ⌝ }
 {
     let n = held::method_count(new, &w[1024..2048], pair.new);
     let mut i = 0;
     while i < n {
         let name = held::method(new, &w[1024..2048], pair.new, i);
-        let b = held::method_index(old, &w[0..1024], pair.old, name);
-        put_pair(w, at, i, i, b);
+        let a = held::method_index(old, &w[0..1024], pair.old, name);
+        put_pair(w, at, i, a, i);
         i += 1;
     }
 }
 
 // Then further ones of old; how many there are with them.
 pub fn pair_old(old: &[u8], new: &[u8], w: &mut [u32], pair: Pair, at: usize) -> usize
-    requires { ⌜ BothLent (now old) (now new) pair at 128 (now w) × PairedUp (listingOf (now new)) (listingOf (now old)) (listingOf (now new) .methods) (part at (at + 128) (now w)) ⌝ }
-    ensures paired { λ _. ⌜ PairsWritten (listingOf (now (old .entry))) (listingOf (now (new .entry))) (joined (listingOf (now (new .entry)) .methods) (listingOf (now (old .entry)) .methods)) at (now (w .entry)) (now (w .exit)) ⌝ }
-    ensures count { λ r. ⌜ r ≡ length (joined (listingOf (now (new .entry)) .methods) (listingOf (now (old .entry)) .methods)) ⌝ }
+    requires { ⌜ BothLent (now old) (now new) pair at 128 (now w) × PairedUp (oldMethods (now old) (now w) pair) (newMethods (now new) (now w) pair) (newMethods (now new) (now w) pair) (part at (at + 128) (now w)) ⌝ }
+    ensures paired { λ _. ⌜ PairsWritten (oldMethods (now (old .entry)) (now (w .entry)) pair) (newMethods (now (new .entry)) (now (w .entry)) pair) (named (now (old .entry)) (now (new .entry)) (now (w .entry)) pair) at (now (w .entry)) (now (w .exit)) ⌝ }
+    ensures count { λ r. ⌜ r ≡ length (named (now (old .entry)) (now (new .entry)) (now (w .entry)) pair) ⌝ }
 {
     let own = held::method_count(new, &w[1024..2048], pair.new);
     let n = held::method_count(old, &w[0..1024], pair.old);
@@ -50,7 +48,7 @@ pub fn pair_old(old: &[u8], new: &[u8], w: &mut [u32], pair: Pair, at: usize) ->
         if held::method_index(new, &w[1024..2048], pair.new, name) < own {
             j = next;
         } else {
-            put_pair(w, at, count, own, j);
+            put_pair(w, at, count, j, own);
             count = count + 1;
             j = next;
         }
@@ -67,11 +65,11 @@ pub fn pair_last(
     at: usize,
     count: usize,
 ) -> usize
-    requires { ⌜ BothLent (now old) (now new) pair at 128 (now w) × (PairedUp (listingOf (now new)) (listingOf (now old)) (joined (listingOf (now new) .methods) (listingOf (now old) .methods)) (part at (at + 128) (now w)) × (count ≡ length (joined (listingOf (now new) .methods) (listingOf (now old) .methods)))) ⌝ }
-    ensures { λ r. ⌜ MethodsWritten (listingOf (now (old .entry))) (listingOf (now (new .entry))) at (now (w .entry)) (now (w .exit)) r ⌝ }
+    requires { ⌜ BothLent (now old) (now new) pair at 128 (now w) × (PairedUp (oldMethods (now old) (now w) pair) (newMethods (now new) (now w) pair) (named (now old) (now new) (now w) pair) (part at (at + 128) (now w)) × (count ≡ length (named (now old) (now new) (now w) pair))) ⌝ }
+    ensures { λ r. ⌜ MethodsWritten (oldMethods (now (old .entry)) (now (w .entry)) pair) (newMethods (now (new .entry)) (now (w .entry)) pair) at (now (w .entry)) (now (w .exit)) r ⌝ }
 {
-    let a = held::method_count(new, &w[1024..2048], pair.new);
-    let b = held::method_count(old, &w[0..1024], pair.old);
+    let a = held::method_count(old, &w[0..1024], pair.old);
+    let b = held::method_count(new, &w[1024..2048], pair.new);
     put_pair(w, at, count, a, b);
     count + 1
 }
@@ -79,7 +77,7 @@ pub fn pair_last(
 // All of them; how many there are.
 pub fn pair_up(old: &[u8], new: &[u8], w: &mut [u32], pair: Pair, at: usize) -> usize
     requires { ⌜ BothLent (now old) (now new) pair at 128 (now w) ⌝ }
-    ensures { λ r. ⌜ MethodsWritten (listingOf (now (old .entry))) (listingOf (now (new .entry))) at (now (w .entry)) (now (w .exit)) r ⌝ }
+    ensures { λ r. ⌜ MethodsWritten (oldMethods (now (old .entry)) (now (w .entry)) pair) (newMethods (now (new .entry)) (now (w .entry)) pair) at (now (w .entry)) (now (w .exit)) r ⌝ }
 {
     pair_new(old, new, w, pair, at);
     let count = pair_old(old, new, w, pair, at);

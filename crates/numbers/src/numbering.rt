@@ -1,11 +1,11 @@
-// Texts become numbers: all that comparing needs of both listings, in the scratch of the work table. After this no text is looked at until the answer is written.
+// Texts become numbers: all that comparing needs of both views, in the scratch of the work table. After this no text is looked at until the answer is written.
 ghost use mathlib.Core.Path.{_≡_};
 ghost use Prim.Native.Nat.{_+_, _≤_};
 ghost use lib.ListN.{length, take, drop};
 ghost use Rattle.text.specs.Texts.{part};
-ghost use Rattle.listings.specs.Listings.{listingOf};
+ghost use Rattle.reading.specs.Views.{texts};
 ghost use Rattle.grants.specs.Scratch.{Numbered};
-ghost use Rattle.numbers.specs.Writes.{BothHeld, BothLent};
+ghost use Rattle.numbers.specs.Writes.{BothHeld, BothLent, oldView, newView};
 ghost use Rattle.numbers.specs.Numbering.{SidesWritten, TablesWritten, NumbersWritten, countsOf};
 ghost use Rattle.numbers.specs.Stemming.{AllStems};
 use crate::methods;
@@ -19,7 +19,7 @@ use reading::held;
 // The sides of old and new, in a scratch from `at` on.
 pub fn write_sides(old: &[u8], new: &[u8], w: &mut [u32], pair: Pair, at: usize)
     requires { ⌜ BothLent (now old) (now new) pair at 2048 (now w) ⌝ }
-    ensures { λ _. ⌜ SidesWritten (listingOf (now (old .entry))) (listingOf (now (new .entry))) at (now (w .entry)) (now (w .exit)) ⌝ }
+    ensures { λ _. ⌜ SidesWritten (oldView (now (old .entry)) (now (w .entry)) pair) (newView (now (new .entry)) (now (w .entry)) pair) at (now (w .entry)) (now (w .exit)) ⌝ }
 {
     sides::fill_side(new, pair.new, old, w, pair.old, 0, at);
     sides::fill_side(
@@ -36,7 +36,7 @@ pub fn write_sides(old: &[u8], new: &[u8], w: &mut [u32], pair: Pair, at: usize)
 // The sides and the trial methods; how many methods there are.
 pub fn write_tables(old: &[u8], new: &[u8], w: &mut [u32], pair: Pair, at: usize) -> usize
     requires { ⌜ BothLent (now old) (now new) pair at 2048 (now w) ⌝ }
-    ensures { λ r. ⌜ TablesWritten (listingOf (now (old .entry))) (listingOf (now (new .entry))) at (now (w .entry)) (now (w .exit)) r ⌝ }
+    ensures { λ r. ⌜ TablesWritten (oldView (now (old .entry)) (now (w .entry)) pair) (newView (now (new .entry)) (now (w .entry)) pair) at (now (w .entry)) (now (w .exit)) r ⌝ }
 {
     write_sides(old, new, w, pair, at);
     methods::pair_up(old, new, w, pair, at + scratch::METHODS)
@@ -52,8 +52,8 @@ pub fn write_lines<'a, 'b>(
     m: usize,
 ) -> Counts
     requires { ⌜ BothLent (now old) (now new) pair at 2048 (now w) ⌝ }
-    ensures stems { λ _. ⌜ AllStems (listingOf (now (old .entry))) (listingOf (now (new .entry))) at (now (w .entry)) (now (w .exit)) ⌝ }
-    ensures counts { λ r. ⌜ r ≡ countsOf (listingOf (now (old .entry))) (listingOf (now (new .entry))) m ⌝ }
+    ensures stems { λ _. ⌜ AllStems (texts (oldView (now (old .entry)) (now (w .entry)) pair)) (texts (newView (now (new .entry)) (now (w .entry)) pair)) at (now (w .entry)) (now (w .exit)) ⌝ }
+    ensures counts { λ r. ⌜ r ≡ countsOf (oldView (now (old .entry)) (now (w .entry)) pair) (newView (now (new .entry)) (now (w .entry)) pair) m ⌝ }
 {
     let o = held::pattern_count(old, &w[0..1024], pair.old);
     let n = held::pattern_count(new, &w[1024..2048], pair.new);
@@ -74,16 +74,16 @@ pub fn write_numbers<'a, 'b>(
     at: usize,
 ) -> Counts
     requires { ⌜ BothLent (now old) (now new) pair at 2048 (now w) ⌝ }
-    ensures { λ r. ⌜ NumbersWritten (listingOf (now (old .entry))) (listingOf (now (new .entry))) at (now (w .entry)) (now (w .exit)) r ⌝ }
+    ensures { λ r. ⌜ NumbersWritten (oldView (now (old .entry)) (now (w .entry)) pair) (newView (now (new .entry)) (now (w .entry)) pair) at (now (w .entry)) (now (w .exit)) r ⌝ }
 {
     let m = write_tables(old, new, w, pair, at);
     write_lines(old, new, w, pair, at, m)
 }
 
-// The scratch of w is filled; the listings stay, and all that stands behind.
+// The scratch of w is filled; the views stay, and all that stands behind.
 pub fn number<'a, 'b>(old: &'a [u8], new: &'a [u8], w: &'b mut [u32], pair: Pair) -> Counts
     requires { ⌜ (4096 ≤ length (now w)) × BothHeld (now old) (now new) (now w) pair ⌝ }
-    ensures numbers { λ r. ⌜ Numbered (listingOf (now (old .entry))) (listingOf (now (new .entry))) (part 2048 4096 (now (w .exit))) r ⌝ }
+    ensures numbers { λ r. ⌜ Numbered (oldView (now (old .entry)) (now (w .entry)) pair) (newView (now (new .entry)) (now (w .entry)) pair) (part 2048 4096 (now (w .exit))) r ⌝ }
     ensures tables { λ _. ⌜ take 2048 (now (w .exit)) ≡ take 2048 (now (w .entry)) ⌝ }
     ensures rest { λ _. ⌜ drop 4096 (now (w .exit)) ≡ drop 4096 (now (w .entry)) ⌝ }
     ensures size { λ _. ⌜ length (now (w .exit)) ≡ length (now (w .entry)) ⌝ }

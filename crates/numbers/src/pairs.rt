@@ -1,5 +1,5 @@
-// What is known of both listings that the work table holds.
-use reading::tables::Tally;
+// What is known of both views that the work table holds.
+use entries::tables::Tally;
 
 // Their counts.
 pub struct Pair {

@@ -5,22 +5,21 @@ ghost use mathlib.Core.List.{[]};
 ghost use Prim.Native.Nat.{_≤_, _<_};
 ghost use lib.ListN.{length};
 ghost use Rattle.text.specs.Texts.{indexOf};
-ghost use Rattle.listings.specs.Listings.{listingOf, patternsOf};
-ghost use Rattle.listings.specs.Patterns.{prefix, extension, kindOf, isExtension, isPermitted};
+ghost use Rattle.names.specs.Patterns.{prefix, extension, kindOf, isExtension, isPermitted};
 ghost use Rattle.reading.specs.Holds.{Holds};
-ghost use Rattle.deciding.specs.Strengths.{leadBy};
+ghost use Rattle.reading.specs.Views.{texts, viewAt};
+ghost use Rattle.matching.specs.Strengths.{leadBy};
 ghost use Rattle.grants.specs.Scratch.{stemStrength, leadingBy, placed};
 use deciding::joining;
-use deciding::joining::Leading;
-use deciding::matching;
+use entries::tables::Tally;
+use matching::Leading;
 use reading::held;
-use reading::tables::Tally;
 use text::texts;
 
 // The line of a text among those of a listing, or their number where it is none of them.
 pub fn text_index(s: &[u8], w: &[u32], t: Tally, text: &[u8]) -> usize
     requires { ⌜ Holds (now s) t (now w) ⌝ }
-    ensures { λ r. ⌜ r ≡ indexOf (now (text .entry)) (patternsOf (listingOf (now (s .entry)))) ⌝ }
+    ensures { λ r. ⌜ r ≡ indexOf (now (text .entry)) (texts (viewAt (now (s .entry)) t (now (w .entry)))) ⌝ }
 {
     let n = held::pattern_count(s, w, t);
     let mut k = 0;
@@ -107,7 +106,7 @@ pub fn lead_by(x: Leading, v: u32) -> Leading
 // The strongest of a listing at P`/`filler.
 pub fn strongest_below(s: &[u8], w: &[u32], t: Tally, p: &[u8]) -> Leading
     requires { ⌜ Holds (now s) t (now w) ⌝ }
-    ensures { λ r. ⌜ r ≡ leadingBy (stemStrength (prefix (now (p .entry)))) (patternsOf (listingOf (now (s .entry)))) ⌝ }
+    ensures { λ r. ⌜ r ≡ leadingBy (stemStrength (prefix (now (p .entry)))) (texts (viewAt (now (s .entry)) t (now (w .entry)))) ⌝ }
 {
     let n = held::pattern_count(s, w, t);
     let mut x = Leading {
@@ -126,7 +125,7 @@ pub fn strongest_below(s: &[u8], w: &[u32], t: Tally, p: &[u8]) -> Leading
 // The strongest of a listing at `/`filler`.`E.
 pub fn strongest_end(s: &[u8], w: &[u32], t: Tally, e: &[u8]) -> Leading
     requires { ⌜ Holds (now s) t (now w) × (isExtension (now e) ≡ true) ⌝ }
-    ensures { λ r. ⌜ r ≡ leadingBy (stemStrength (extension (now (e .entry)))) (patternsOf (listingOf (now (s .entry)))) ⌝ }
+    ensures { λ r. ⌜ r ≡ leadingBy (stemStrength (extension (now (e .entry)))) (texts (viewAt (now (s .entry)) t (now (w .entry)))) ⌝ }
 {
     let n = held::pattern_count(s, w, t);
     let mut x = Leading {
@@ -145,7 +144,7 @@ pub fn strongest_end(s: &[u8], w: &[u32], t: Tally, e: &[u8]) -> Leading
 // The strongest of a listing at the stem of a pattern text.
 pub fn strongest_at(s: &[u8], w: &[u32], t: Tally, text: &[u8]) -> Leading
     requires { ⌜ Holds (now s) t (now w) × (isPermitted (kindOf (now text)) ≡ true) ⌝ }
-    ensures { λ r. ⌜ r ≡ leadingBy (stemStrength (kindOf (now (text .entry)))) (patternsOf (listingOf (now (s .entry)))) ⌝ }
+    ensures { λ r. ⌜ r ≡ leadingBy (stemStrength (kindOf (now (text .entry)))) (texts (viewAt (now (s .entry)) t (now (w .entry)))) ⌝ }
 {
     if text.len() == 0 {
         return joining::strongest(s, w, t, b"/");

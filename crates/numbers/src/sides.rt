@@ -1,25 +1,23 @@
-// The table of a side: what each `pattern` line of a listing says, with its roles in the numbers of new's, and how far the next line with
-// the same text is. Covers stand first, then marks, roles and gaps, 128 of each. The listing stands in the 1,024 numbers of the work
-// table from `from` on, new in those from 1,024 on, and the side is written from `at` on.
+// The table of a side: what each `pattern` line of a view says, with its roles in the numbers of new's, and how far the next line with
+// the same text is. Covers stand first, then marks, roles and gaps, 128 of each. The view stands in the 1,024 numbers of the work
+// table from `from` on, new's in those from 1,024 on, and the side is written from `at` on.
 ghost use mathlib.Core.Path.{_≡_};
-ghost use mathlib.Core.List.{[]};
-ghost use Prim.Native.Nat.{ℕ, _+_, _≤_, _<_};
-ghost use lib.ListN.{length, getD};
-ghost use Rattle.listings.specs.Listings.{listingOf, patternsOf};
-ghost use Rattle.text.specs.Texts.{indexOf, part};
+ghost use Prim.Native.Nat.{_+_, _≤_, _<_};
+ghost use lib.ListN.{length};
+ghost use Rattle.text.specs.Texts.{part};
 ghost use Rattle.reading.specs.Holds.{Holds};
-ghost use Rattle.reading.specs.Views.{coverAt, accessAt};
-ghost use Rattle.grants.specs.Sides.{renumbered, accessMark, accessRoles, gapAt};
-ghost use Rattle.numbers.specs.Writes.{Wrote, Lent, Mapped, markAt, rolesAt, Plain, SideWritten};
+ghost use Rattle.reading.specs.Views.{texts, coverAt, viewAt};
+ghost use Rattle.grants.specs.Sides.{accessMark, accessRoles, gapAt};
+ghost use Rattle.numbers.specs.Writes.{LinesWritten, Lent, Mapped, viewFrom, markAt, renumberedBy, rolesBy, Plain, SideWritten};
+use entries::tables;
+use entries::tables::Tally;
 use reading::held;
 use reading::held::Access;
-use reading::tables;
-use reading::tables::Tally;
 
 // The covers.
 pub fn fill_covers(s: &[u8], w: &mut [u32], t: Tally, from: usize, at: usize)
     requires { ⌜ Lent (now s) t from at 128 (now w) ⌝ }
-    ensures { λ _. ⌜ Wrote at (length (patternsOf (listingOf (now (s .entry))))) (coverAt (listingOf (now (s .entry)))) (now (w .entry)) (now (w .exit)) ⌝ }
+    ensures { λ _. ⌜ LinesWritten (viewFrom (now (s .entry)) t from (now (w .entry))) coverAt at (now (w .entry)) (now (w .exit)) ⌝ }
 {
     let n = held::pattern_count(s, &w[from..from + 1024], t);
     let mut k = 0;
@@ -54,8 +52,8 @@ pub fn roles_of(a: Access) -> u64
 
 // The mark of line k.
 pub fn mark_at(s: &[u8], w: &[u32], t: Tally, k: usize) -> u32
-    requires { ⌜ Holds (now s) t (now w) × (k < length (patternsOf (listingOf (now s)))) ⌝ }
-    ensures { λ r. ⌜ r ≡ markAt (listingOf (now (s .entry))) k ⌝ }
+    requires { ⌜ Holds (now s) t (now w) × (k < length (texts (viewAt (now s) t (now w)))) ⌝ }
+    ensures { λ r. ⌜ r ≡ markAt (viewAt (now (s .entry)) t (now (w .entry))) k ⌝ }
 {
     mark_of(held::access_of(s, w, t, k))
 }
@@ -63,7 +61,7 @@ pub fn mark_at(s: &[u8], w: &[u32], t: Tally, k: usize) -> u32
 // The marks.
 pub fn fill_marks(s: &[u8], w: &mut [u32], t: Tally, from: usize, at: usize)
     requires { ⌜ Lent (now s) t from at 128 (now w) ⌝ }
-    ensures { λ _. ⌜ Wrote at (length (patternsOf (listingOf (now (s .entry))))) (markAt (listingOf (now (s .entry)))) (now (w .entry)) (now (w .exit)) ⌝ }
+    ensures { λ _. ⌜ LinesWritten (viewFrom (now (s .entry)) t from (now (w .entry))) markAt at (now (w .entry)) (now (w .exit)) ⌝ }
 {
     let n = held::pattern_count(s, &w[from..from + 1024], t);
     let mut k = 0;
@@ -74,10 +72,19 @@ pub fn fill_marks(s: &[u8], w: &mut [u32], t: Tally, from: usize, at: usize)
     }
 }
 
-// The place of each of new's roles among those of the listing s.
-pub fn fill_map(new: &[u8], wn: &[u32], tn: Tally, s: &[u8], w: &[u32], t: Tally, map: &mut [u32])
+// The place of each of new's roles among those of the other view; how many there are.
+pub fn fill_map(
+    new: &[u8],
+    wn: &[u32],
+    tn: Tally,
+    s: &[u8],
+    w: &[u32],
+    t: Tally,
+    map: &mut [u32],
+) -> usize
     requires { ⌜ Holds (now new) tn (now wn) × (Holds (now s) t (now w) × (length (now map) ≡ 32)) ⌝ }
-    ensures { λ _. ⌜ Mapped (listingOf (now (new .entry)) .roles) (listingOf (now (s .entry)) .roles) (now (map .exit)) ⌝ }
+    ensures places { λ _. ⌜ Mapped (viewAt (now (new .entry)) tn (now (wn .entry)) .roles) (viewAt (now (s .entry)) t (now (w .entry)) .roles) (now (map .exit)) ⌝ }
+    ensures count { λ r. ⌜ r ≡ length (viewAt (now (new .entry)) tn (now (wn .entry)) .roles) ⌝ }
 {
     let n = held::role_count(new, wn, tn);
     let mut i = 0;
@@ -86,24 +93,14 @@ pub fn fill_map(new: &[u8], wn: &[u32], tn: Tally, s: &[u8], w: &[u32], t: Tally
         map[i] = held::role_index(s, w, t, name) as u32;
         i += 1;
     }
+    n
 }
 
-// A set of roles of the listing s in the numbers of new's.
-pub fn renumber(
-    new: &[u8],
-    wn: &[u32],
-    tn: Tally,
-    s: &[u8],
-    w: &[u32],
-    t: Tally,
-    map: &[u32],
-    set: u64,
-) -> u32
-    requires { ⌜ (Holds (now new) tn (now wn) × Holds (now s) t (now w)) × Mapped (listingOf (now new) .roles) (listingOf (now s) .roles) (now map) ⌝ }
-    ensures { λ r. ⌜ r ≡ renumbered (listingOf (now (new .entry)) .roles) (listingOf (now (s .entry)) .roles) set ⌝ }
+// A set of `own` roles in the numbers of new's, of which the map has n.
+pub fn renumber(map: &[u32], n: usize, own: usize, set: u64) -> u32
+    requires { ⌜ (length (now map) ≡ 32) × ((n ≤ 32) × (own ≤ 32)) ⌝ }
+    ensures { λ r. ⌜ r ≡ renumberedBy (now (map .entry)) n own set ⌝ }
 {
-    let n = held::role_count(new, wn, tn);
-    let own = held::role_count(s, w, t);
     let mut out: u32 = 0;
     let mut i = 0;
     while i < n {
@@ -124,41 +121,24 @@ pub fn renumber(
 }
 
 // The roles of line k.
-pub fn roles_at(
-    new: &[u8],
-    wn: &[u32],
-    tn: Tally,
-    s: &[u8],
-    w: &[u32],
-    t: Tally,
-    map: &[u32],
-    k: usize,
-) -> u32
-    requires { ⌜ (Holds (now new) tn (now wn) × Holds (now s) t (now w)) × (Mapped (listingOf (now new) .roles) (listingOf (now s) .roles) (now map) × (k < length (patternsOf (listingOf (now s))))) ⌝ }
-    ensures { λ r. ⌜ r ≡ rolesAt (listingOf (now (new .entry)) .roles) (listingOf (now (s .entry))) k ⌝ }
+pub fn roles_at(s: &[u8], w: &[u32], t: Tally, map: &[u32], n: usize, k: usize) -> u32
+    requires { ⌜ (Holds (now s) t (now w) × (k < length (texts (viewAt (now s) t (now w))))) × ((length (now map) ≡ 32) × (n ≤ 32)) ⌝ }
+    ensures { λ r. ⌜ r ≡ rolesBy (now (map .entry)) n (viewAt (now (s .entry)) t (now (w .entry))) k ⌝ }
 {
     let set = roles_of(held::access_of(s, w, t, k));
-    renumber(new, wn, tn, s, w, t, map, set)
+    let own = held::role_count(s, w, t);
+    renumber(map, n, own, set)
 }
 
 // The roles.
-pub fn fill_roles(
-    new: &[u8],
-    tn: Tally,
-    s: &[u8],
-    w: &mut [u32],
-    t: Tally,
-    from: usize,
-    map: &[u32],
-    at: usize,
-)
-    requires { ⌜ (Holds (now new) tn (part 1024 2048 (now w)) × Lent (now s) t from at 128 (now w)) × Mapped (listingOf (now new) .roles) (listingOf (now s) .roles) (now map) ⌝ }
-    ensures { λ _. ⌜ Wrote at (length (patternsOf (listingOf (now (s .entry))))) (rolesAt (listingOf (now (new .entry)) .roles) (listingOf (now (s .entry)))) (now (w .entry)) (now (w .exit)) ⌝ }
+pub fn fill_roles(s: &[u8], w: &mut [u32], t: Tally, from: usize, map: &[u32], n: usize, at: usize)
+    requires { ⌜ Lent (now s) t from at 128 (now w) × ((length (now map) ≡ 32) × (n ≤ 32)) ⌝ }
+    ensures { λ _. ⌜ LinesWritten (viewFrom (now (s .entry)) t from (now (w .entry))) (rolesBy (now (map .entry)) n) at (now (w .entry)) (now (w .exit)) ⌝ }
 {
-    let n = held::pattern_count(s, &w[from..from + 1024], t);
+    let count = held::pattern_count(s, &w[from..from + 1024], t);
     let mut k = 0;
-    while k < n {
-        let v = roles_at(new, &w[1024..2048], tn, s, &w[from..from + 1024], t, map, k);
+    while k < count {
+        let v = roles_at(s, &w[from..from + 1024], t, map, n, k);
         w[at + k] = v;
         k += 1;
     }
@@ -166,8 +146,8 @@ pub fn fill_roles(
 
 // How many lines stand between line k and the next with the same text, or follow it where there is none.
 pub fn gap(s: &[u8], w: &[u32], t: Tally, k: usize) -> usize
-    requires { ⌜ Holds (now s) t (now w) × (k < length (patternsOf (listingOf (now s)))) ⌝ }
-    ensures { λ r. ⌜ r ≡ gapAt (patternsOf (listingOf (now (s .entry)))) k ⌝ }
+    requires { ⌜ Holds (now s) t (now w) × (k < length (texts (viewAt (now s) t (now w)))) ⌝ }
+    ensures { λ r. ⌜ r ≡ gapAt (viewAt (now (s .entry)) t (now (w .entry))) k ⌝ }
 {
     let text = held::pattern(s, w, t, k);
     let n = held::pattern_count(s, w, t);
@@ -185,7 +165,7 @@ pub fn gap(s: &[u8], w: &[u32], t: Tally, k: usize) -> usize
 // The gaps.
 pub fn fill_gaps(s: &[u8], w: &mut [u32], t: Tally, from: usize, at: usize)
     requires { ⌜ Lent (now s) t from at 128 (now w) ⌝ }
-    ensures { λ _. ⌜ Wrote at (length (patternsOf (listingOf (now (s .entry))))) (gapAt (patternsOf (listingOf (now (s .entry))))) (now (w .entry)) (now (w .exit)) ⌝ }
+    ensures { λ _. ⌜ LinesWritten (viewFrom (now (s .entry)) t from (now (w .entry))) gapAt at (now (w .entry)) (now (w .exit)) ⌝ }
 {
     let n = held::pattern_count(s, &w[from..from + 1024], t);
     let mut k = 0;
@@ -199,20 +179,20 @@ pub fn fill_gaps(s: &[u8], w: &mut [u32], t: Tally, from: usize, at: usize)
 // All of the table but the roles.
 pub fn fill_plain(s: &[u8], w: &mut [u32], t: Tally, from: usize, at: usize)
     requires { ⌜ Lent (now s) t from at 512 (now w) ⌝ }
-    ensures { λ _. ⌜ Plain (listingOf (now (s .entry))) at (now (w .entry)) (now (w .exit)) ⌝ }
+    ensures { λ _. ⌜ Plain (viewFrom (now (s .entry)) t from (now (w .entry))) at (now (w .entry)) (now (w .exit)) ⌝ }
 {
     fill_covers(s, w, t, from, at);
     fill_marks(s, w, t, from, at + 128);
     fill_gaps(s, w, t, from, at + 384);
 }
 
-// The whole table of the listing s.
+// The whole table of the view.
 pub fn fill_side(new: &[u8], tn: Tally, s: &[u8], w: &mut [u32], t: Tally, from: usize, at: usize)
     requires { ⌜ Holds (now new) tn (part 1024 2048 (now w)) × Lent (now s) t from at 512 (now w) ⌝ }
-    ensures { λ _. ⌜ SideWritten (listingOf (now (new .entry)) .roles) (listingOf (now (s .entry))) at (now (w .entry)) (now (w .exit)) ⌝ }
+    ensures { λ _. ⌜ SideWritten (viewAt (now (new .entry)) tn (part 1024 2048 (now (w .entry))) .roles) (viewFrom (now (s .entry)) t from (now (w .entry))) at (now (w .entry)) (now (w .exit)) ⌝ }
 {
     let mut map = [0; 32];
-    fill_map(
+    let n = fill_map(
         new,
         &w[1024..2048],
         tn,
@@ -222,5 +202,5 @@ pub fn fill_side(new: &[u8], tn: Tally, s: &[u8], w: &mut [u32], t: Tally, from:
         &mut map,
     );
     fill_plain(s, w, t, from, at);
-    fill_roles(new, tn, s, w, t, from, &map, at + 256);
+    fill_roles(s, w, t, from, &map, n, at + 256);
 }

@@ -1,21 +1,21 @@
 // The stems: for each `pattern` line of both listings, new's and then old's, and for `/`filler, its sort and its best line in old and in new.
 ghost use mathlib.Core.Path.{_≡_};
 ghost use mathlib.Core.Bool.{true};
-ghost use mathlib.Core.List.{[]};
+ghost use mathlib.Core.List.{[], _++_};
 ghost use Prim.Native.Nat.{_+_, _*_, _≤_, _<_};
 ghost use lib.ListN.{length, getD};
 ghost use Rattle.text.specs.Texts.{indexOf};
-ghost use Rattle.listings.specs.Listings.{listingOf, patternsOf};
-ghost use Rattle.listings.specs.Patterns.{default, kindOf, isPermitted};
+ghost use Rattle.names.specs.Patterns.{default, kindOf, isPermitted};
 ghost use Rattle.reading.specs.Holds.{Holds};
+ghost use Rattle.reading.specs.Views.{texts, viewAt};
 ghost use Rattle.grants.specs.Scratch.{sortOf, stemPlace, textsOf};
-ghost use Rattle.numbers.specs.Writes.{Both, BothLent};
-ghost use Rattle.numbers.specs.Stemming.{standsFirm, seenInNew, seenInOld, putStem, lastStem, StemIs, StemsWritten, AllStems};
+ghost use Rattle.numbers.specs.Writes.{Both, BothLent, oldView, newView, oldTexts, newTexts};
+ghost use Rattle.numbers.specs.Stemming.{standsFirm, seenInNew, seenInOld, putStem, lastStem, StemIs, StemOf, StemsWritten, AllStems};
 use crate::pairs::Pair;
 use crate::searching;
+use entries::tables::Tally;
 use grants::scratch;
 use reading::held;
-use reading::tables::Tally;
 use text::texts;
 
 // What is written of a stem.
@@ -51,8 +51,8 @@ pub fn own_place(k: usize) -> u32
 
 // The best line of the stem of a text in a listing where the text is line k.
 pub fn place_at(s: &[u8], w: &[u32], t: Tally, text: &[u8], k: usize) -> u32
-    requires { ⌜ (Holds (now s) t (now w) × (isPermitted (kindOf (now text)) ≡ true)) × (k ≡ indexOf (now text) (patternsOf (listingOf (now s)))) ⌝ }
-    ensures { λ r. ⌜ r ≡ stemPlace (patternsOf (listingOf (now (s .entry)))) (kindOf (now (text .entry))) ⌝ }
+    requires { ⌜ (Holds (now s) t (now w) × (isPermitted (kindOf (now text)) ≡ true)) × (k ≡ indexOf (now text) (texts (viewAt (now s) t (now w)))) ⌝ }
+    ensures { λ r. ⌜ r ≡ stemPlace (texts (viewAt (now (s .entry)) t (now (w .entry)))) (kindOf (now (text .entry))) ⌝ }
 {
     let n = held::pattern_count(s, w, t);
     if stands_firm(text, k, n) {
@@ -64,7 +64,7 @@ pub fn place_at(s: &[u8], w: &[u32], t: Tally, text: &[u8], k: usize) -> u32
 // The best line of `/`filler.
 pub fn last_place(s: &[u8], w: &[u32], t: Tally) -> u32
     requires { ⌜ Holds (now s) t (now w) ⌝ }
-    ensures { λ r. ⌜ r ≡ stemPlace (patternsOf (listingOf (now (s .entry)))) default ⌝ }
+    ensures { λ r. ⌜ r ≡ stemPlace (texts (viewAt (now (s .entry)) t (now (w .entry)))) default ⌝ }
 {
     searching::place_of(searching::strongest_below(s, w, t, b""))
 }
@@ -95,8 +95,8 @@ pub fn line_text<'a, 'b, 'c>(
     pair: Pair,
     j: usize,
 ) -> &'a [u8]
-    requires { ⌜ Both (now old) (now new) (now wo) (now wn) pair × (j < length (textsOf (listingOf (now old)) (listingOf (now new)))) ⌝ }
-    ensures { λ r. ⌜ now r ≡ getD (textsOf (listingOf (now (old .entry))) (listingOf (now (new .entry)))) j [] ⌝ }
+    requires { ⌜ Both (now old) (now new) (now wo) (now wn) pair × (j < length (newTexts (now new) (now wn) pair ++ oldTexts (now old) (now wo) pair)) ⌝ }
+    ensures { λ r. ⌜ now r ≡ getD (newTexts (now (new .entry)) (now (wn .entry)) pair ++ oldTexts (now (old .entry)) (now (wo .entry)) pair) j [] ⌝ }
 {
     let n = held::pattern_count(new, wn, pair.new);
     if j < n {
@@ -136,8 +136,8 @@ pub fn stem_of(
     text: &[u8],
     j: usize,
 ) -> Stem
-    requires { ⌜ (Both (now old) (now new) (now wo) (now wn) pair × (isPermitted (kindOf (now text)) ≡ true)) × (j ≤ length (textsOf (listingOf (now old)) (listingOf (now new)))) ⌝ }
-    ensures { λ r. ⌜ StemIs (listingOf (now (old .entry))) (listingOf (now (new .entry))) (now (text .entry)) j r ⌝ }
+    requires { ⌜ (Both (now old) (now new) (now wo) (now wn) pair × (isPermitted (kindOf (now text)) ≡ true)) × (j ≤ length (newTexts (now new) (now wn) pair ++ oldTexts (now old) (now wo) pair)) ⌝ }
+    ensures { λ r. ⌜ StemIs (oldTexts (now (old .entry)) (now (wo .entry)) pair) (newTexts (now (new .entry)) (now (wn .entry)) pair) (now (text .entry)) j r ⌝ }
 {
     let n = held::pattern_count(new, wn, pair.new);
     let i = searching::text_index(new, wn, pair.new, text);
@@ -172,8 +172,8 @@ pub fn stem_at<'a, 'b, 'c>(
     pair: Pair,
     j: usize,
 ) -> Stem
-    requires { ⌜ Both (now old) (now new) (now wo) (now wn) pair × (j < length (textsOf (listingOf (now old)) (listingOf (now new)))) ⌝ }
-    ensures { λ r. ⌜ StemIs (listingOf (now (old .entry))) (listingOf (now (new .entry))) (getD (textsOf (listingOf (now (old .entry))) (listingOf (now (new .entry)))) j []) j r ⌝ }
+    requires { ⌜ Both (now old) (now new) (now wo) (now wn) pair × (j < length (newTexts (now new) (now wn) pair ++ oldTexts (now old) (now wo) pair)) ⌝ }
+    ensures { λ r. ⌜ StemOf (oldTexts (now (old .entry)) (now (wo .entry)) pair) (newTexts (now (new .entry)) (now (wn .entry)) pair) j r ⌝ }
 {
     let text = line_text(old, new, wo, wn, pair, j);
     stem_of(old, new, wo, wn, pair, text, j)
@@ -198,8 +198,8 @@ pub fn fill_stems<'a, 'b>(
     at: usize,
     count: usize,
 )
-    requires { ⌜ BothLent (now old) (now new) pair at 2048 (now w) × (count ≡ length (textsOf (listingOf (now old)) (listingOf (now new)))) ⌝ }
-    ensures { λ _. ⌜ StemsWritten (listingOf (now (old .entry))) (listingOf (now (new .entry))) at count (now (w .entry)) (now (w .exit)) ⌝ }
+    requires { ⌜ BothLent (now old) (now new) pair at 2048 (now w) × (count ≡ length (textsOf (oldView (now old) (now w) pair) (newView (now new) (now w) pair))) ⌝ }
+    ensures { λ _. ⌜ StemsWritten (texts (oldView (now (old .entry)) (now (w .entry)) pair)) (texts (newView (now (new .entry)) (now (w .entry)) pair)) at count (now (w .entry)) (now (w .exit)) ⌝ }
 {
     let mut j = 0;
     while j < count {
@@ -212,7 +212,7 @@ pub fn fill_stems<'a, 'b>(
 // The last stem.
 pub fn last_stem(old: &[u8], new: &[u8], wo: &[u32], wn: &[u32], pair: Pair) -> Stem
     requires { ⌜ Both (now old) (now new) (now wo) (now wn) pair ⌝ }
-    ensures { λ r. ⌜ r ≡ lastStem (listingOf (now (old .entry))) (listingOf (now (new .entry))) ⌝ }
+    ensures { λ r. ⌜ r ≡ lastStem (oldTexts (now (old .entry)) (now (wo .entry)) pair) (newTexts (now (new .entry)) (now (wn .entry)) pair) ⌝ }
 {
     Stem {
         sort: 1,
@@ -230,8 +230,8 @@ pub fn write_stems<'a, 'b>(
     at: usize,
     count: usize,
 )
-    requires { ⌜ BothLent (now old) (now new) pair at 2048 (now w) × (count ≡ length (textsOf (listingOf (now old)) (listingOf (now new)))) ⌝ }
-    ensures { λ _. ⌜ AllStems (listingOf (now (old .entry))) (listingOf (now (new .entry))) at (now (w .entry)) (now (w .exit)) ⌝ }
+    requires { ⌜ BothLent (now old) (now new) pair at 2048 (now w) × (count ≡ length (textsOf (oldView (now old) (now w) pair) (newView (now new) (now w) pair))) ⌝ }
+    ensures { λ _. ⌜ AllStems (texts (oldView (now (old .entry)) (now (w .entry)) pair)) (texts (newView (now (new .entry)) (now (w .entry)) pair)) at (now (w .entry)) (now (w .exit)) ⌝ }
 {
     fill_stems(old, new, w, pair, at, count);
     let x = last_stem(old, new, &w[0..1024], &w[1024..2048], pair);

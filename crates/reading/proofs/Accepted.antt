@@ -9,22 +9,25 @@ use lib.Dec.{leb}
 use borrow.Author.Tests.{leb-true}
 use native.Mathlib.Omega.{arith}
 use Rattle.text.specs.Texts.{Text, bytes, same, all, member, known, run, onLast, Once}
-use Rattle.listings.specs.Records.{Record, isKind, isStar, namesRole, namesMethod, fieldsWhere, declaredIn, rolesIn, methodsIn}
+use Rattle.listings.specs.Records.{Record, isKind, namesRole, namesMethod, fieldsWhere, declaredIn, rolesIn, methodsIn}
+use Rattle.names.specs.Names.{isStar, madeOf, isName, isRoleName, isMethodName, isPattern}
 use Rattle.text.specs.Bytes.{between, isText, isToken}
-use Rattle.listings.specs.Names.{madeOf, isName, isRoleName, isMethodName, isPattern, nameFits, patternFits}
-use Rattle.listings.specs.Limits.{count}
+use Rattle.listings.specs.Fields.{nameFits, patternFits}
+use Rattle.listings.specs.Counts.{count}
 use Rattle.listings.specs.Refusals.{accepted, readingOf}
 use Rattle.listings.specs.Listings.{Collected, Constrained, Listing, PatternLine, adds, constraintsIn, listingIn, recordsOf, listingOf, linesInCollection, linesInConstraint, patternLinesOf, newConstraint, addAllowed, addCollection, addPattern, addMethod, addOmitted, inCollection, patternsOf}
 use Rattle.listings.specs.Propers.{Proper}
-use Rattle.reading.specs.Tables.{tablesOf}
+use Rattle.entries.specs.Tables.{tablesOf}
 use Rattle.listings.specs.declared.records.Kind.{Kind}
 use Rattle.listings.specs.declared.records.Kind.the-variants.{Role, Constraint, Allow, Collection, Pattern, Method, Omit, End}
 use Rattle.text.proofs.Truths.{and-left, and-right}
 use Rattle.reading.proofs.Countings.{roles-snoc, methods-snoc}
 use Rattle.listings.proofs.Sound.{Sound, sound-none, sound-more, Passes, Few, sound-few}
 use Rattle.reading.proofs.Keeping.{Kept, kept}
-use Rattle.listings.proofs.Plainly.{member-append, member-plain}
+use Rattle.names.proofs.Plainly.{member-append, member-plain}
 use Rattle.text.proofs.Spans.{same-self}
+use Rattle.reading.specs.Views.{ProperView, viewOf}
+use Rattle.reading.proofs.Viewings.{texts-of}
 use Rattle.text.proofs.Indices.{run-snoc, once-distinct}
 use Rattle.reading.proofs.Rulings.{Pictures, pictures}
 use Rattle.reading.proofs.Loads.{accepted-sound}
@@ -351,3 +354,18 @@ proper l g =
 pub accepted-proper : (s : Text) → readingOf s ≡ accepted → Proper (listingOf s)
 unfolding listingOf
 accepted-proper s e = proper (listingIn (recordsOf s)) (grounds (recordsOf s) (accepted-sound s e))
+
+-- ---- and of its view
+pub proper-view : (l : Listing) → Proper l → ProperView (viewOf l)
+unfolding viewOf
+proper-view l P = record {
+  few-patterns = rw (texts-of l) (P .few-patterns);
+  good-patterns = λ t i. P .good-patterns t (subst (List·Memᴰ t) (texts-of l) i);
+  short-patterns = λ t i. P .short-patterns t (subst (List·Memᴰ t) (texts-of l) i);
+  few-methods = P .few-methods;
+  methods-once = P .methods-once;
+  good-methods = P .good-methods;
+  few-roles = P .few-roles;
+  roles-once = P .roles-once;
+  good-roles = P .good-roles;
+}

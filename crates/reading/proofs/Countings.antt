@@ -10,8 +10,8 @@ use borrow.Author.Tests.{ltb-true, ltb-false}
 use Rattle.text.specs.Texts.{Text, member, known, run, distinct, onLast, indexOf}
 use Rattle.text.proofs.Indices.{run-snoc, length-snoc, index-bound, index-member, index-front, index-behind, Begins, begins-front}
 use Rattle.listings.specs.Records.{Record, placeOf, placeAfter, isKind, fieldsWhere, namesRole, namesMethod, declaredIn, rolesIn, methodsIn}
-use Rattle.listings.specs.Limits.{count}
-use Rattle.reading.specs.Tables.{startTables, indexed, tablesWith, tablesOf}
+use Rattle.listings.specs.Counts.{count}
+use Rattle.entries.specs.Tables.{startTables, indexed, tablesWith, tablesOf}
 use Rattle.listings.specs.declared.records.Kind.{Kind}
 use Rattle.listings.specs.declared.records.Kind.the-variants.{Role}
 

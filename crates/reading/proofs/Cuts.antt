@@ -19,7 +19,8 @@ use Rattle.reading.specs.declared.reader.Cursor.{Cursor}
 use Rattle.reading.specs.declared.reader.Lined.{Lined}
 use Rattle.reading.specs.declared.reader.Lined.the-variants.{Moved, Ended, Bad}
 use Rattle.listings.specs.declared.answers.Fault.the-variants.{BadForm}
-use Rattle.reading.specs.Tables.{Tables, bad, lineWith, lineFrom, LineOutcome}
+use Rattle.entries.specs.Tables.{Tables}
+use Rattle.reading.specs.Fillings.{bad, lineWith, lineFrom, LineOutcome}
 use Rattle.listings.specs.Records.{Record, alone, withField, recordNamed, recordOf, formed}
 use Rattle.text.proofs.Truths.{never, or-left, or-right}
 

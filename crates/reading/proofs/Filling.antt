@@ -10,7 +10,8 @@ use Rattle.text.specs.Lines.{Line}
 use Rattle.listings.specs.Records.{Record, formed, isKind}
 use Rattle.listings.specs.Refusals.{refusal, firstBroken, afterEnd, readFrom}
 use Rattle.listings.specs.Listings.{recordsIn}
-use Rattle.reading.specs.Tables.{Tables, startTables, tablesWith, tablesOf, checkRecord, stepFrom, Filling, filled, unfilled, closing, fillFrom, answerOf}
+use Rattle.entries.specs.Tables.{Tables, startTables, tablesWith, tablesOf, checkRecord, stepFrom}
+use Rattle.reading.specs.Fillings.{Filling, filled, unfilled, closing, fillFrom, answerOf}
 use Rattle.listings.specs.declared.records.Kind.the-variants.{End}
 use Rattle.listings.specs.declared.answers.Fault.{Fault}
 use Rattle.listings.specs.declared.answers.Fault.the-variants.{BadForm, NoEnd}

@@ -7,11 +7,11 @@ use mathlib.Core.Option.{Option, none, some, Option·some-injective, Option·non
 use Prim.Native.Nat.{ℕ, _≤_}
 use native.Mathlib.Omega.{arith}
 use Rattle.text.specs.Texts.{Text}
-use Rattle.listings.specs.Refusals.{Reading, accepted, refusal, numberOf, readingOf}
+use Rattle.listings.specs.Refusals.{Reading, accepted, refusal, numberOf, readingOf, report}
 use Rattle.listings.specs.Rules.{rowNumber}
 use Rattle.worktable.specs.Work.{isShort}
 use Rattle.reading.specs.Outcomes.{reportOf, shortReport, readReport}
-use Rattle.reading.specs.Rows.{report, row, listingRow, lastRow, FirstGiven, FirstBroken, Unbroken, readRows}
+use Rattle.reading.specs.Rows.{row, listingRow, lastRow, FirstGiven, FirstBroken, Unbroken, readRows}
 use Rattle.listings.specs.declared.answers.Report.{Report}
 use Rattle.listings.specs.declared.answers.Fault.{Fault}
 use Rattle.listings.specs.declared.answers.Fault.the-variants.{LongListing, BadFirstLine, BadForm, WrongPlace, BadName, BadPattern, RoleTwice, PastMost, NoEnd}

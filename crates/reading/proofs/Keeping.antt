@@ -9,11 +9,13 @@ use lib.ListN.{length}
 use lib.Dec.{ltb, leb, leb·suc-suc}
 use borrow.Author.Tests.{le-ltb}
 use Rattle.text.specs.Texts.{Text, bytes, same, member, known, run, distinct, indexOf}
-use Rattle.listings.specs.Records.{Record, placeOf, placeAfter, mayFollow, isAmong, isKind, isStar, fieldsWhere, namesRole, namesMethod, declaredIn, rolesIn, methodsIn}
-use Rattle.listings.specs.Names.{nameFits, patternFits, isRoleName}
-use Rattle.listings.specs.Limits.{mostConstraints, mostCollections, mostPatterns, mostMethodLines, mostRoles, mostMethods, count, tooMany}
+use Rattle.listings.specs.Records.{Record, placeOf, placeAfter, mayFollow, isAmong, isKind, fieldsWhere, namesRole, namesMethod, declaredIn, rolesIn, methodsIn}
+use Rattle.names.specs.Names.{isStar, isRoleName}
+use Rattle.listings.specs.Fields.{nameFits, patternFits}
+use Rattle.limits.specs.Limits.{mostConstraints, mostCollections, mostPatterns, mostMethodLines, mostRoles, mostMethods}
+use Rattle.listings.specs.Counts.{count, tooMany}
 use Rattle.listings.specs.Refusals.{declaresAgain, firstBroken}
-use Rattle.reading.specs.Tables.{Tables, indexed, fieldAdd, tablesWith, tablesOf, fieldCheck, checkRecord, recordWith}
+use Rattle.entries.specs.Tables.{Tables, indexed, fieldAdd, tablesWith, tablesOf, fieldCheck, checkRecord, recordWith}
 use Rattle.listings.specs.declared.records.Kind.{Kind}
 use Rattle.listings.specs.declared.records.Kind.the-variants.{Role, Constraint, Allow, Collection, Pattern, Method, Omit, End}
 use Rattle.listings.specs.declared.records.Place.the-variants.{AfterOpen, AfterAuth}

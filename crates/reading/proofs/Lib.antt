@@ -4,13 +4,9 @@
 --   Firsts      when each refusal of the call is given
 -- For the crates above:
 --   Accepted    what is known of an accepted listing
---   Digits      sets as the digits of a number
---   Holdings    what is read off the work table is what the listing says
+--   Viewings    the view of a listing, and that of tables
+--   Holdings    what is read off the work table is the view that it holds, and `load` leaves that of the listing
 -- The code, module by module:
---   Members     tables: sets as the code makes them
---   Regions     parts of the work table, and the texts that its numbers name
---   Growth      how the tables grow with the numbers written
---   Effects     steps: what each record comes to
 --   Cuts        lines: a text cut at its tabs and bytes 10
 --   Lineheads   how a line begins
 --   Linecuts    a line cut at a place, and what it comes to
@@ -25,10 +21,6 @@
 --   Coverings   the sets that the tables keep
 --   Pictures    the tables picture the listing
 --   Rulings     the same rule by rule
-pub mod Members
-pub mod Regions
-pub mod Growth
-pub mod Effects
 pub mod Countings
 pub mod Keeping
 pub mod Filling
@@ -38,10 +30,10 @@ pub mod Lineheads
 pub mod Linecuts
 pub mod Tokens
 pub mod Loads
-pub mod Digits
 pub mod Numberings
 pub mod Coverings
 pub mod Pictures
+pub mod Viewings
 pub mod Rulings
 pub mod Holdings
 pub mod Unique

@@ -13,7 +13,8 @@ use Rattle.text.specs.Bytes.{isText}
 use Rattle.text.specs.Lines.{linesOf, toFieldEnd}
 use Rattle.listings.specs.Records.{recordNamed}
 use Rattle.listings.specs.Heads.{headOf}
-use Rattle.reading.specs.Tables.{Tables, lineWith, lineFrom, LineOutcome}
+use Rattle.entries.specs.Tables.{Tables}
+use Rattle.reading.specs.Fillings.{lineWith, lineFrom, LineOutcome}
 use Rattle.reading.specs.Cuts.{cutOf}
 use Rattle.listings.specs.declared.records.Headed.{Headed}
 use Rattle.reading.specs.declared.lines.Cut.{Cut}

@@ -14,7 +14,8 @@ use Rattle.text.specs.Texts.{Text, bytes, tab, newline, part, same, all, starts
 use Rattle.text.specs.Lines.{linesOf, toFieldEnd}
 use Rattle.listings.specs.Records.{alone, withField, recordNamed}
 use Rattle.listings.specs.Heads.{headed, unheaded, headOfPart, headOf}
-use Rattle.reading.specs.Tables.{Tables, bad, lineWith, lineFrom, LineOutcome}
+use Rattle.entries.specs.Tables.{Tables}
+use Rattle.reading.specs.Fillings.{bad, lineWith, lineFrom, LineOutcome}
 use Rattle.listings.specs.declared.records.Kind.{Kind}
 use Rattle.listings.specs.declared.records.Kind.the-variants.{Role, Constraint, Allow, Collection, Pattern, Method, Omit, End}
 use Rattle.listings.specs.declared.records.Named.{Named}

@@ -12,15 +12,16 @@ use lib.Dec.{ltb}
 use borrow.Author.Tests.{lt-ltb, le-ltb, ne-eqb}
 use Rattle.text.specs.Texts.{Text, bytes, same, part, startsWith}
 use Rattle.text.specs.Lines.{Line, linesOf}
-use Rattle.listings.specs.Refusals.{Reading, accepted, refusal, readFrom, readLines, readingOf}
+use Rattle.listings.specs.Refusals.{Reading, accepted, refusal, readFrom, readLines, readingOf, report}
 use Rattle.listings.specs.Listings.{recordsIn, recordsOf}
-use Rattle.reading.specs.Tables.{Filling, filled, unfilled, Tables, Fits, fillFrom, startTables, answerOf, tablesAt, tablesOf, fillShown, FillFits, FillOutcome}
-use Rattle.reading.specs.Room.{listingRoom}
+use Rattle.entries.specs.Tables.{Tables, Fits, startTables, tablesAt, tablesOf}
+use Rattle.reading.specs.Fillings.{Filling, filled, unfilled, fillFrom, answerOf, fillShown, FillFits, FillOutcome}
+use Rattle.entries.specs.Room.{listingRoom}
 use Rattle.reading.specs.Readers.{Ready, behindFirst, stayed, fillingFrom}
 use Rattle.reading.specs.Holds.{Holds, readingShown, LoadHolds, LoadOutcome}
 use Rattle.listings.specs.declared.answers.Fault.{Fault}
 use Rattle.listings.specs.declared.answers.Fault.the-variants.{LongListing, BadFirstLine}
-use Rattle.reading.specs.declared.tables.Tally.{Tally}
+use Rattle.entries.specs.declared.tables.Tally.{Tally}
 use Rattle.reading.specs.declared.reader.Loaded.{Loaded}
 use Rattle.reading.specs.declared.reader.Loaded.the-variants.{Whole, Not}
 use Rattle.listings.specs.Refusals.{numberOf}
@@ -124,7 +125,7 @@ module _ (s w : List ℕ) (at : ℕ) where
   filling-short R n = R .short (positive at n)
 
 -- ---- `load`: the filling from the begin on is the reading
-filling-read : (s : Text) → answerOf (fillingFrom s (behindFirst s 0)) ≡ readingOf s
+pub filling-read : (s : Text) → answerOf (fillingFrom s (behindFirst s 0)) ≡ readingOf s
 unfolding fillingFrom behindFirst
 filling-read s = go (decLe (length s) 24576) (startsWith header s) refl
   where
@@ -134,7 +135,7 @@ filling-read s = go (decLe (length s) 24576) (startsWith header s) refl
     go (yes h) false e = rw (le-ltb 24576 (length s) h, e) (sym (short s h ∙ header-missing s e))
 
 -- and where it is filled, with the tables of the text's records
-filling-tables : (s : Text) (T : Tables) → fillingFrom s (behindFirst s 0) ≡ filled T → T ≡ tablesOf (recordsOf s)
+pub filling-tables : (s : Text) (T : Tables) → fillingFrom s (behindFirst s 0) ≡ filled T → T ≡ tablesOf (recordsOf s)
 unfolding fillingFrom behindFirst
 filling-tables s T = go (ltb 24576 (length s)) refl (startsWith header s) refl
   where
@@ -142,20 +143,6 @@ filling-tables s T = go (ltb 24576 (length s)) refl (startsWith header s) refl
     go true z b e q = absurd (unlike LongListing 0 T (rw z at q))
     go false z true e q = fill-tables (linesOf (drop 14 s)) T (rw (z, e) at q) ∙ ap tablesOf (sym (records-behind s e))
     go false z false e q = absurd (unlike BadFirstLine 1 T (rw (z, e) at q))
-
-pub load-read : (s w : List ℕ) (out : Loaded) → FillOutcome s (fillingFrom s (behindFirst s 0)) out w → LoadOutcome s out w
-load-read s w out o = go out (o .answer) (o .fits)
-  where
-    read : (f : Filling) → f ≡ fillingFrom s (behindFirst s 0) → answerOf f ≡ readingOf s
-    read f q = ap answerOf q ∙ filling-read s
-
-    go : (x : Loaded) → fillShown s x w ≡ fillingFrom s (behindFirst s 0) → FillFits s x w → LoadOutcome s x w
-    go (Not f k) q t = record { answer = read (unfilled f k) q; holds = tt }
-    go (Whole u) q t =
-        record {
-          answer = read (filled (tablesAt s u w)) q;
-          holds = record { accepts = sym (read (filled (tablesAt s u w)) q); tables = filling-tables s (tablesAt s u w) (sym q); fits = t };
-        }
 
 -- ---- the records of an accepted text are sound
 pub accepted-sound : (s : Text) → readingOf s ≡ accepted → Sound (recordsOf s)
@@ -179,18 +166,22 @@ accepted-sound s a = by-size (decLe (length s) 24576)
         absurd (refused LongListing 0 (sym (long s l) ∙ a))
 
 -- ---- what is handed back
-pub report-whole : (side : ℕ) (l : Loaded) (t : Tally) → l ≡ Whole t → record { number = 0; side = 0; line = 0 } ≡ reportOf side (readingShown l)
-report-whole side l t e = rw e
+pub report-whole : (side : ℕ) (l : Loaded) (t : Tally) (x : Report) → l ≡ Whole t → x ≡ report 0 0 0 → x ≡ reportOf side (readingShown l)
+report-whole side l t x e h = h ∙ rw e
 
-pub report-not : (side : ℕ) (l : Loaded) (f : Fault) (n m : ℕ) → l ≡ Not f n → m ≡ numberOf f → record { number = m; side = side; line = n } ≡ reportOf side (readingShown l)
-report-not side l f n m e q = rw (e, q)
+pub report-not : (side : ℕ) (l : Loaded) (f : Fault) (n m : ℕ) (x : Report) → l ≡ Not f n → m ≡ numberOf f → x ≡ report m side n → x ≡ reportOf side (readingShown l)
+report-not side l f n m x e q h = h ∙ rw (e, q)
+
+-- of a listing that is loaded
+pub loaded-reported : (side : ℕ) (s : Text) (l : Loaded) (w : List ℕ) (r : Report) → LoadOutcome s l w → r ≡ reportOf side (readingShown l) → r ≡ reportOf side (readingOf s)
+loaded-reported side s l w r L e = e ∙ ap (reportOf side) (L .answer)
 
 -- ---- the whole call
-pub read-short : (s w : List ℕ) (b : Bool) → b ≡ isShort w → b ≡ true → ReadOutcome s w (record { number = 1; side = 0; line = 0 }) w
+pub read-short : (s w : List ℕ) (x : Report) (b : Bool) → b ≡ isShort w → b ≡ true → x ≡ report 1 0 0 → ReadOutcome s w x w
 unfolding readReport workAfter
-read-short s w b is y =
+read-short s w x b is y e =
     let h = too-short w b is y in
-    record { handed = rw (lt-ltb _ _ h); work = rw (lt-ltb _ _ h) }
+    record { handed = e ∙ rw (lt-ltb _ _ h); work = rw (lt-ltb _ _ h) }
 
 pub read-long : (s w w′ : List ℕ) (r : Report) (b : Bool) → b ≡ isShort w → b ≡ false → (r ≡ reportOf 1 (readingOf s)) × (w′ ≡ zeroed 4096 w) → ReadOutcome s w r w′
 unfolding readReport workAfter

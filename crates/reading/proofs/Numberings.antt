@@ -8,7 +8,7 @@ use native.Mathlib.Decide.{decLt}
 use lib.ListN.{length, getD, length-append, length-map, List·getD-append}
 use lib.Seq.{getD-append-seam, getD-append-add}
 use Rattle.text.specs.Texts.{Text, onLast}
-use Rattle.reading.proofs.Regions.{on-last-snoc}
+use Rattle.entries.proofs.Regions.{on-last-snoc}
 use Rattle.text.proofs.Indices.{length-snoc}
 
 -- ---- the last element changed

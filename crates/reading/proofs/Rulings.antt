@@ -5,22 +5,18 @@ use mathlib.Core.List.{List, [], _∷_, map, flatMap, map-id, map-map}
 use Prim.Native.Nat.{ℕ, zero, suc, _≤_, _<_}
 use native.Mathlib.Omega.{arith}
 use lib.ListN.{length, getD, length-map, List·getD-map}
-use lib.Dec.{eqb}
 use Rattle.text.specs.Texts.{Text}
 use Rattle.listings.specs.Records.{Record}
 use Rattle.listings.specs.Listings.{Collected, Constrained, Listing, PatternLine, isEmpty, covers, closes, linesInCollection, linesInConstraint, patternLinesOf, listingIn, patternsOf}
-use Rattle.reading.specs.Views.{coverSet, admitSet, accessOf, coverAt, accessAt}
-use Rattle.reading.specs.Tables.{Tables, tablesOf}
+use Rattle.reading.specs.Views.{texts, coverAt, accessAt, coverSet, admitSet, accessOf, viewOf, counted, accessBy, viewIn}
+use Rattle.entries.specs.Tables.{Tables, tablesOf}
 use Rattle.reading.specs.declared.held.Access.{Access}
 use Rattle.reading.specs.declared.held.Access.the-variants.{Open, Closed, ByRole}
 use Rattle.listings.proofs.Sound.{Sound}
 use Rattle.reading.proofs.Keeping.{kept}
 use Rattle.reading.proofs.Numberings.{flat-map, flat-flat, flat-same, numbers, numbers-length, numbers-bound, looked-up}
+use Rattle.reading.proofs.Viewings.{texts-of, cover-of, access-of, texts-in, cover-in, access-in, view-same}
 use Rattle.reading.proofs.Pictures.{collectionsOf, patternsIn, markOf, pictured}
-
--- what a constraint says, by its mark and the roles that it allows
-abbrev pub accessBy : ℕ → ℕ → Access
-accessBy mark allowed = cond (eqb mark 0) Open (cond (eqb mark 1) Closed (ByRole allowed))
 
 -- ---- the rules of a listing
 -- an image of the rules, by constraint and collection
@@ -99,8 +95,8 @@ pub record Pictures (T : Tables) (l : Listing) : Type 0 where
   pub parents : length (T .parents) ≡ length (patternsOf l)
   pub owner : (k : ℕ) → k < length (patternsOf l) → (1 ≤ getD (T .owners) k 0) × (getD (T .owners) k 0 ≤ length (T .covers))
   pub parent : (k : ℕ) → k < length (patternsOf l) → (1 ≤ getD (T .parents) k 0) × (getD (T .parents) k 0 ≤ length (T .marks))
-  pub cover : (k : ℕ) → getD (0 ∷ T .covers) (getD (T .owners) k 0) 0 ≡ coverAt l k
-  pub access : (k : ℕ) → accessBy (getD (0 ∷ T .marks) (getD (T .parents) k 0) 0) (getD (0 ∷ T .allows) (getD (T .parents) k 0) 0) ≡ accessAt l k
+  -- what they say, line by line
+  pub view : viewIn T ≡ viewOf l
 
 module _ (rs : List Record) (s : Sound rs) where
   -- ---- the lists of the tables, by the listing
@@ -158,28 +154,42 @@ module _ (rs : List Record) (s : Sound rs) where
   parent-bound k h =
       bounded patternsIn markOf (listingIn rs .constraints) (tablesOf rs .parents) (tablesOf rs .marks) k listed-parents listed-marks (omega (arith, parent-count))
 
-  cover-at : (k : ℕ) → getD (0 ∷ tablesOf rs .covers) (getD (tablesOf rs .owners) k 0) 0 ≡ coverAt (listingIn rs) k
-  unfolding coverAt
+  cover-at : (k : ℕ) → counted (tablesOf rs .covers) (getD (tablesOf rs .owners) k 0) ≡ coverAt (viewOf (listingIn rs)) k
   cover-at k =
       rw (listed-covers, listed-owners)
       (looked-at (λ (c : Collected). c .patterns) (coverSet (listingIn rs)) (collectionsOf (listingIn rs .constraints)) k
       ∙ ap (λ (xs : List ℕ). getD xs k 0) (sym (rules-collection (listingIn rs) (coverSet (listingIn rs)))))
+      ∙ sym (cover-of (listingIn rs) k)
 
   access-at : (k : ℕ) →
-      accessBy (getD (0 ∷ tablesOf rs .marks) (getD (tablesOf rs .parents) k 0) 0) (getD (0 ∷ tablesOf rs .allows) (getD (tablesOf rs .parents) k 0) 0)
-      ≡ accessAt (listingIn rs) k
-  unfolding accessAt
+      accessBy (counted (tablesOf rs .marks) (getD (tablesOf rs .parents) k 0)) (counted (tablesOf rs .allows) (getD (tablesOf rs .parents) k 0))
+      ≡ accessAt (viewOf (listingIn rs)) k
   access-at k =
       ap₂ accessBy (on-constraints markOf (tablesOf rs .marks) listed-marks) (on-constraints (admitSet (listingIn rs)) (tablesOf rs .allows) listed-allows)
       ∙ both-at (λ (r : PatternLine). markOf (r .constraint)) (λ (r : PatternLine). admitSet (listingIn rs) (r .constraint))
       (λ (r : PatternLine). accessOf (listingIn rs) (r .constraint))
       (λ r. access-by (listingIn rs) (r .constraint)) (patternLinesOf (listingIn rs)) k
+      ∙ sym (access-of (listingIn rs) k)
     where
       on-constraints : (g : Constrained → ℕ) (xs : List ℕ) → xs ≡ map g (listingIn rs .constraints) →
           getD (0 ∷ xs) (getD (tablesOf rs .parents) k 0) 0 ≡ getD (map (λ (r : PatternLine). g (r .constraint)) (patternLinesOf (listingIn rs))) k 0
       on-constraints g xs e =
           rw (e, listed-parents)
           (looked-at patternsIn g (listingIn rs .constraints) k ∙ ap (λ (ys : List ℕ). getD ys k 0) (sym (rules-constraint (listingIn rs) g)))
+
+  -- line k of the view is one of the tables
+  here : (k : ℕ) → k < length (texts (viewOf (listingIn rs))) → k < length (tablesOf rs .patterns)
+  here k h = omega (arith, ap length (texts-of (listingIn rs)), ap length listed-patterns)
+
+  view-at : viewIn (tablesOf rs) ≡ viewOf (listingIn rs)
+  unfolding viewIn viewOf
+  view-at =
+      view-same (viewIn (tablesOf rs)) (viewOf (listingIn rs))
+      (texts-in (tablesOf rs) ∙ listed-patterns ∙ sym (texts-of (listingIn rs)))
+      (λ k h. cover-in (tablesOf rs) k (here k h) ∙ cover-at k)
+      (λ k h. access-in (tablesOf rs) k (here k h) ∙ access-at k)
+      listed-roles
+      listed-methods
 
   pub pictures : Pictures (tablesOf rs) (listingIn rs)
   pictures = record {
@@ -190,6 +200,5 @@ module _ (rs : List Record) (s : Sound rs) where
     parents = parent-count;
     owner = owner-bound;
     parent = parent-bound;
-    cover = cover-at;
-    access = access-at;
+    view = view-at;
   }

@@ -14,9 +14,10 @@ use lib.ListN.{length, take, drop, getD, drop-of-length-le}
 use Rattle.text.specs.Texts.{Text, newline, part}
 use Rattle.text.specs.Lines.{Line, before, linesOf, toFieldEnd}
 use Rattle.listings.specs.Records.{Record, isKind, formed, alone, withField, recordNamed}
-use Rattle.reading.specs.Tables.{Tables, Fits, Stepping, next, wrong, Lining, bad, moved, ended, Filling, filled, unfilled, closing, fillFrom, fillShown, FillFits, FillOutcome, closedAt, startTables, region, textsAt, spansAt, lineShown, stepFrom, recordWith, isEndKind, linedBy, lineWith, lineFrom, tablesAt, stepShown, StepFits, StepOutcome, LineEnd, Gone, LineFits, LineOutcome}
+use Rattle.entries.specs.Tables.{Tables, Fits, Stepping, next, wrong, startTables, region, textsAt, spansAt, stepFrom, recordWith, tablesAt, stepShown, StepFits, StepOutcome}
+use Rattle.reading.specs.Fillings.{Lining, bad, moved, ended, Filling, filled, unfilled, closing, fillFrom, fillShown, FillFits, FillOutcome, closedAt, lineShown, isEndKind, linedBy, lineWith, lineFrom, LineEnd, Gone, LineFits, LineOutcome}
 use Rattle.reading.specs.Readers.{Ready}
-use Rattle.reading.specs.Tallies.{startTally}
+use Rattle.entries.specs.Tallies.{startTally}
 use Rattle.reading.specs.declared.reader.Loaded.{Loaded}
 use Rattle.reading.specs.declared.reader.Loaded.the-variants.{Whole, Not}
 use Rattle.listings.specs.declared.records.Kind.{Kind}
@@ -25,9 +26,9 @@ use Rattle.listings.specs.declared.records.Named.{Named}
 use Rattle.listings.specs.declared.records.Named.the-variants.{Known, Unknown}
 use Rattle.listings.specs.declared.answers.Fault.{Fault}
 use Rattle.listings.specs.declared.answers.Fault.the-variants.{BadForm, NoEnd}
-use Rattle.reading.specs.declared.tables.Tally.{Tally}
-use Rattle.reading.specs.declared.steps.Stepped.{Stepped}
-use Rattle.reading.specs.declared.steps.Stepped.the-variants.{Next, Wrong}
+use Rattle.entries.specs.declared.tables.Tally.{Tally}
+use Rattle.entries.specs.declared.steps.Stepped.{Stepped}
+use Rattle.entries.specs.declared.steps.Stepped.the-variants.{Next, Wrong}
 use Rattle.reading.specs.declared.reader.Cursor.{Cursor}
 use Rattle.reading.specs.declared.reader.Lined.{Lined}
 use Rattle.reading.specs.declared.reader.Lined.the-variants.{Moved, Ended, Bad}

@@ -11,7 +11,8 @@ use Rattle.worktable.specs.Work.{workSize, isShort}
 use Rattle.listings.specs.declared.answers.Fault.{Fault}
 use Rattle.listings.specs.declared.answers.Report.{Report}
 use Rattle.reading.specs.Outcomes.{ReadOutcome}
-use Rattle.reading.specs.Rows.{report, FirstGiven, FirstBroken, readRows}
+use Rattle.listings.specs.Refusals.{report}
+use Rattle.reading.specs.Rows.{FirstGiven, FirstBroken, readRows}
 
 -- "After every call the first 4,096 work numbers are zero and the rest as before; with refusal 1 none changes."
 pub record TableLeft (work left : List ℕ) : Type 0 where

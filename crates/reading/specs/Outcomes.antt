@@ -5,17 +5,17 @@ use mathlib.Core.Bool.{cond}
 use mathlib.Core.List.{List}
 use Rattle.text.specs.Texts.{Text}
 use Rattle.worktable.specs.Work.{isShort, workAfter}
-use Rattle.listings.specs.Refusals.{Reading, accepted, refusal, numberOf, shortTable, readingOf}
+use Rattle.listings.specs.Refusals.{Reading, accepted, refusal, numberOf, shortTable, readingOf, report}
 use Rattle.listings.specs.declared.answers.Report.{Report}
 
 -- number, side and line: "Without a refusal number, side and line are 0"
 abbrev pub reportOf : ℕ → Reading → Report
-reportOf side accepted = record { number = 0; side = 0; line = 0 }
-reportOf side (refusal f n) = record { number = numberOf f; side = side; line = n }
+reportOf side accepted = report 0 0 0
+reportOf side (refusal f n) = report (numberOf f) side n
 
 -- refusal 1 has side 0 and line 0
 abbrev pub shortReport : Report
-shortReport = record { number = shortTable; side = 0; line = 0 }
+shortReport = report shortTable 0 0
 
 -- `budquarry_read`: one listing, side 1
 unfoldable pub readReport : Text → List ℕ → Report

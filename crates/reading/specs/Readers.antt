@@ -6,10 +6,11 @@ use lib.ListN.{length, drop}
 use lib.Dec.{eqb, ltb}
 use Rattle.text.specs.Texts.{Text, bytes, startsWith}
 use Rattle.text.specs.Lines.{linesOf}
-use Rattle.listings.specs.Limits.{mostBytes}
+use Rattle.limits.specs.Limits.{mostBytes}
 use Rattle.listings.specs.declared.answers.Fault.the-variants.{LongListing, BadFirstLine}
-use Rattle.reading.specs.Room.{listingRoom}
-use Rattle.reading.specs.Tables.{Filling, unfilled, fillFrom, startTables}
+use Rattle.entries.specs.Room.{listingRoom}
+use Rattle.entries.specs.Tables.{startTables}
+use Rattle.reading.specs.Fillings.{Filling, unfilled, fillFrom}
 use Rattle.reading.specs.declared.reader.Reader.{Reader}
 use Rattle.reading.specs.declared.reader.Loaded.{Loaded}
 use Rattle.reading.specs.declared.reader.Loaded.the-variants.{Not}

@@ -6,15 +6,11 @@ use mathlib.Core.Bool.{Bool, true, false, cond}
 use mathlib.Core.List.{List, [], _∷_, _++_, List·Memᴰ}
 use mathlib.Core.Option.{Option, none, some}
 use Rattle.text.specs.Texts.{Text}
-use Rattle.listings.specs.Refusals.{Reading, accepted, refusal, readingOf}
+use Rattle.listings.specs.Refusals.{Reading, accepted, refusal, readingOf, report}
 use Rattle.listings.specs.Rules.{broken, isEarlier, rowNumber}
 use Rattle.worktable.specs.Work.{isShort}
 use Rattle.listings.specs.declared.answers.Fault.{Fault}
 use Rattle.listings.specs.declared.answers.Report.{Report}
-
--- number, side and line
-abbrev pub report : ℕ → ℕ → ℕ → Report
-report number side line = record { number = number; side = side; line = line }
 
 -- ---- the rows: none where a row is not given. The numbers are written out, so that the theorems check those of Refusals too.
 -- a row that is about no listing: "its side (0 for 1, 14, 11, 12, 13 ..) and its line (.. 0 for 1, 14, 2, 11, 12, 13)"

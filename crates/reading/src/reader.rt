@@ -9,20 +9,22 @@ ghost use Rattle.listings.specs.Records.{recordNamed};
 ghost use Rattle.listings.specs.Refusals.{readingOf};
 ghost use Rattle.reading.specs.Outcomes.{reportOf, ReadOutcome};
 ghost use Rattle.worktable.specs.Work.{zeroed};
-ghost use Rattle.listings.specs.Limits.{mostBytes};
-ghost use Rattle.reading.specs.Room.{listingRoom};
-ghost use Rattle.reading.specs.Tables.{Fits, Field, LineEnd, LineOutcome, FillOutcome, lineWith, lineFrom, fillFrom, tablesAt, startTables, isEndKind, closedAt};
+ghost use Rattle.limits.specs.Limits.{mostBytes};
+ghost use Rattle.entries.specs.Room.{listingRoom};
+ghost use Rattle.entries.specs.Tables.{Fits, Field, tablesAt, startTables};
+ghost use Rattle.reading.specs.Fillings.{LineEnd, LineOutcome, FillOutcome, lineWith, lineFrom, fillFrom, isEndKind, closedAt};
 ghost use Rattle.reading.specs.Readers.{Ready, behindFirst, stayed, fillingFrom, standingAt};
 ghost use Rattle.reading.specs.Holds.{LoadOutcome, readingShown};
 use crate::lines;
-use crate::steps;
-use crate::steps::Stepped;
-use crate::tables::Tally;
+use crate::lines::Cut;
+use entries::steps;
+use entries::steps::Stepped;
+use entries::tables::Tally;
+use limits::Counted;
+use limits::most;
 use listings::answers;
 use listings::answers::Fault;
 use listings::answers::Report;
-use listings::limits::Counted;
-use listings::limits::most;
 use listings::records::Kind;
 use listings::records::Named;
 use text::bytes;
@@ -76,32 +78,30 @@ pub fn is_end(k: Kind) -> bool
     }
 }
 
-// A line whose record is named n, or is not: its field is the bytes of s from a up to e, where the line ends.
+// A whole line, cut, that ends where the cut says.
 pub fn line_named(
     table: &[u8; 256],
     s: &[u8],
     w: &mut [u32],
     t: Tally,
     c: Cursor,
-    n: Named,
-    a: usize,
-    e: usize,
-    clean: bool,
+    cut: Cut,
 ) -> Lined
-    requires { ⌜ (now table ≡ classTable) × (Field (now s) t (now w) a e × ((clean ≡ all isText (part a e (now s))) × LineEnd (now s) c e)) ⌝ }
-    ensures { λ r. ⌜ LineOutcome (now (s .entry)) c (lineWith (tablesAt (now (s .entry)) t (now (w .entry))) (recordNamed n (part a e (now (s .entry)))) (linesOf (drop (e + 1) (now (s .entry))))) r (now (w .exit)) ⌝ }
+    requires { ⌜ (now table ≡ classTable) × (Field (now s) t (now w) (cut .from) (cut .end) × ((cut .clean ≡ all isText (part (cut .from) (cut .end) (now s))) × LineEnd (now s) c (cut .end))) ⌝ }
+    ensures { λ r. ⌜ LineOutcome (now (s .entry)) c (lineWith (tablesAt (now (s .entry)) t (now (w .entry))) (recordNamed (cut .named) (part (cut .from) (cut .end) (now (s .entry)))) (linesOf (drop (cut .end + 1) (now (s .entry))))) r (now (w .exit)) ⌝ }
 {
-    match n {
+    let named = cut.named;
+    match named {
         Named::Unknown => Lined::Bad(Fault::BadForm),
         Named::Known(k) => {
-            let stepped = steps::step(table, s, w, t, k, a, e, clean);
+            let stepped = steps::step(table, s, w, t, k, cut.from, cut.end, cut.clean);
             match stepped {
                 Stepped::Wrong(f) => Lined::Bad(f),
                 Stepped::Next(u) => {
                     if is_end(k) {
-                        return Lined::Ended(u, c.past(e));
+                        return Lined::Ended(u, c.past(cut.end));
                     }
-                    Lined::Moved(u, c.past(e))
+                    Lined::Moved(u, c.past(cut.end))
                 }
             }
         }
@@ -117,8 +117,7 @@ pub fn line(table: &[u8; 256], s: &[u8], w: &mut [u32], t: Tally, c: Cursor) -> 
     if !cut.whole {
         return Lined::Bad(Fault::BadForm);
     }
-    let named = cut.named;
-    line_named(table, s, w, t, c, named, cut.from, cut.end, cut.clean)
+    line_named(table, s, w, t, c, cut)
 }
 
 // The lines from a place on, of which the first is line 2.
@@ -240,16 +239,8 @@ pub fn report(side: u32, l: Loaded) -> Report
     ensures { λ r. ⌜ r ≡ reportOf side (readingShown l) ⌝ }
 {
     match l {
-        Loaded::Whole(_) => Report {
-            number: 0,
-            side: 0,
-            line: 0,
-        },
-        Loaded::Not(f, n) => Report {
-            number: answers::number(f),
-            side: side,
-            line: n,
-        },
+        Loaded::Whole(_) => answers::accept(),
+        Loaded::Not(f, n) => answers::refuse(answers::number(f), side, n),
     }
 }
 
@@ -270,11 +261,7 @@ pub extern "C" fn budquarry_read(listing: &[u8], work: &mut [u32]) -> Report
     ensures { λ r. ⌜ ReadOutcome (now (listing .entry)) (now (work .entry)) r (now (work .exit)) ⌝ }
 {
     if worktable::is_short(work) {
-        return Report {
-            number: answers::SHORT_TABLE,
-            side: 0,
-            line: 0,
-        };
+        return answers::refuse(answers::SHORT_TABLE, 0, 0);
     }
     read_with(listing, work, worktable::WORK)
 }

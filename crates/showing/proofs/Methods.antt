@@ -1,4 +1,4 @@
--- A trial method by its numbers in both listings.
+-- A trial method by its numbers in both views.
 use mathlib.Core.Path.{_≡_, sym, ap, _∙_}
 use mathlib.Core.List.{List, [], _∷_, _++_, List·Memᴰ, List·Memᴰ·eq-of-singleton, List·Memᴰ·append-cases}
 use mathlib.Core.Logic.{⊎-elim}
@@ -9,23 +9,22 @@ use lib.Seq.{sets, getD-take, getD-drop}
 use borrow.Author.Tests.{le-ltb}
 use Rattle.text.specs.Texts.{Text, bytes, member, indexOf, part}
 use Rattle.text.specs.Bytes.{isToken}
-use Rattle.listings.specs.Names.{isMethodName}
-use Rattle.listings.specs.Listings.{Listing, listingOf}
+use Rattle.names.specs.Names.{isMethodName}
 use Rattle.text.proofs.Truths.{never}
 use Rattle.text.proofs.Indices.{index-member, index-here, member-at}
-use Rattle.listings.proofs.Plainly.{member-plain}
+use Rattle.names.proofs.Plainly.{member-plain}
 use Rattle.reading.specs.Holds.{Holds}
-use Rattle.reading.specs.declared.tables.Tally.{Tally}
-use Rattle.reading.proofs.Accepted.{accepted-proper}
-use Rattle.deciding.proofs.Strengths.{at-listed}
+use Rattle.reading.specs.Views.{viewAt}
+use Rattle.entries.specs.declared.tables.Tally.{Tally}
+use Rattle.matching.proofs.Strengths.{at-listed}
 use Rattle.writing.specs.Decimals.{digits}
-use Rattle.trials.specs.Fillers.{numbered, firstNumber, isUnnamed, fillerMethod, fillerMethodOf}
-use Rattle.trials.specs.Trials.{joined, trialMethods}
+use Rattle.trials.specs.Fillers.{numbered, firstNumber, isUnnamed, fillerMethod}
+use Rattle.trials.specs.Trials.{joined, methodsTried}
 use Rattle.trials.proofs.Bounds.{made-short}
 use Rattle.trials.proofs.Choices.{joined-of}
-use Rattle.grants.specs.Sides.{PairsOf}
 use Rattle.grants.specs.Scratch.{pairsIn}
 use Rattle.showing.specs.Shown.{methodsOfBoth, Telling}
+use Rattle.numbers.specs.Writes.{oldMethods, newMethods}
 use Rattle.numbers.specs.declared.pairs.Pair.{Pair}
 
 -- the numbers stand behind both listings
@@ -37,42 +36,39 @@ pair-at w i h =
     getD-take (1152 - 1024) (drop 1024 (part 2048 4096 w)) i 0 q ∙ getD-drop 1024 (part 2048 4096 w) i 0
     ∙ getD-take (4096 - 2048) (drop 2048 w) (1024 + i) 0 p ∙ getD-drop 2048 w (1024 + i) 0 ∙ ap (λ (k : ℕ). getD w k 0) e
 
--- there are 63 of them at most
-pub method-few : (old new : Text) (w : List ℕ) (pair : Pair) → Telling old new w pair → (m : ℕ) → m < length (methodsOfBoth old new) → m < 63
-method-few old new w pair T m h = omega (arith, T .methods .few)
-
-pub first-read : (old new : Text) (w : List ℕ) (pair : Pair) → Telling old new w pair → (m : ℕ) → m < length (methodsOfBoth old new) → 3072 + m < length w
+-- there are 63 of them at most, and their numbers are in the table
+pub first-read : (old new : Text) (w : List ℕ) (pair : Pair) → Telling old new w pair → (m : ℕ) → m < length (methodsOfBoth old new w pair) → 3072 + m < length w
 first-read old new w pair T m h = omega (arith, T .methods .few, T .long)
 
-pub second-read : (old new : Text) (w : List ℕ) (pair : Pair) → Telling old new w pair → (m : ℕ) → m < length (methodsOfBoth old new) → 3136 + m < length w
+pub second-read : (old new : Text) (w : List ℕ) (pair : Pair) → Telling old new w pair → (m : ℕ) → m < length (methodsOfBoth old new w pair) → 3136 + m < length w
 second-read old new w pair T m h = omega (arith, T .methods .few, T .long)
 
-module _ (old new : Text) (w : List ℕ) (pair : Pair) (T : Telling old new w pair) (m : ℕ) (within : m < length (methodsOfBoth old new)) where
+module _ (old new : Text) (w : List ℕ) (pair : Pair) (T : Telling old new w pair) (m : ℕ) (within : m < length (methodsOfBoth old new w pair)) where
   abbrev news : List Text
-  news = listingOf new .methods
+  news = newMethods new w pair
 
   abbrev olds : List Text
-  olds = listingOf old .methods
+  olds = oldMethods old w pair
 
   abbrev tried : Text
-  tried = getD (methodsOfBoth old new) m []
+  tried = getD (methodsOfBoth old new w pair) m []
 
-  first-is : (i : ℕ) → i ≡ getD w (3072 + m) 0 → i ≡ indexOf tried news
-  first-is i e = e ∙ sym (pair-at w m (omega (arith, T .methods .few))) ∙ T .methods .firsts m within
+  in-olds : (j : ℕ) → j ≡ getD w (3072 + m) 0 → j ≡ indexOf tried olds
+  in-olds j e = e ∙ sym (pair-at w m (omega (arith, T .methods .few))) ∙ T .methods .olds m within
 
-  second-is : (j : ℕ) → j ≡ getD w (3136 + m) 0 → j ≡ indexOf tried olds
-  second-is j e =
+  in-news : (i : ℕ) → i ≡ getD w (3136 + m) 0 → i ≡ indexOf tried news
+  in-news i e =
       let q : 3072 + (64 + m) ≡ 3136 + m = omega arith in
-      e ∙ ap (λ (k : ℕ). getD w k 0) (sym q) ∙ sym (pair-at w (64 + m) (omega (arith, T .methods .few))) ∙ T .methods .seconds m within
+      e ∙ ap (λ (k : ℕ). getD w k 0) (sym q) ∙ sym (pair-at w (64 + m) (omega (arith, T .methods .few))) ∙ T .methods .news m within
 
   -- what has no place is none of them
   unnamed : (ms : List Text) (n : ℕ) → n ≡ indexOf tried ms → length ms ≤ n → List·Memᴰ tried ms → ⊥
   unnamed ms n q l a = never (member tried ms) (member-plain tried ms .1 a) (sym (index-member tried ms) ∙ le-ltb (indexOf tried ms) (length ms) (rw q at l))
 
-  -- it is new's where its first number is one of new's
-  module _ (i k : ℕ) (e : i ≡ getD w (3072 + m) 0) (all : k ≡ length news) (h : i < k) (name : Text) (q : name ≡ getD news i []) where
+  -- it is new's where its number there is one of new's
+  module _ (i k : ℕ) (e : i ≡ getD w (3136 + m) 0) (all : k ≡ length news) (h : i < k) (name : Text) (q : name ≡ getD news i []) where
     new-named : name ≡ tried
-    new-named = let p = first-is i e in q ∙ rw p (index-here tried news (omega arith))
+    new-named = let p = in-news i e in q ∙ rw p (index-here tried news (omega arith))
 
     pub new-place : (r at : ℕ) → r ≡ at + length name → r ≡ at + length tried
     new-place r at p = p ∙ ap (λ (t : Text). at + length t) new-named
@@ -80,10 +76,10 @@ module _ (old new : Text) (w : List ℕ) (pair : Pair) (T : Telling old new w pa
     pub new-bytes : (out d : Text) (at : ℕ) → d ≡ sets out at name → d ≡ sets out at tried
     new-bytes out d at p = p ∙ ap (sets out at) new-named
 
-  -- and old's where its second is one of old's
-  module _ (j l : ℕ) (f : j ≡ getD w (3136 + m) 0) (every : l ≡ length olds) (g : j < l) (name : Text) (q : name ≡ getD olds j []) where
+  -- and old's where its number there is one of old's
+  module _ (j l : ℕ) (f : j ≡ getD w (3072 + m) 0) (every : l ≡ length olds) (g : j < l) (name : Text) (q : name ≡ getD olds j []) where
     old-named : name ≡ tried
-    old-named = let p = second-is j f in q ∙ rw p (index-here tried olds (omega arith))
+    old-named = let p = in-olds j f in q ∙ rw p (index-here tried olds (omega arith))
 
     pub old-place : (r at : ℕ) → r ≡ at + length name → r ≡ at + length tried
     old-place r at p = p ∙ ap (λ (t : Text). at + length t) old-named
@@ -92,15 +88,16 @@ module _ (old new : Text) (w : List ℕ) (pair : Pair) (T : Telling old new w pa
     old-bytes out d at p = p ∙ ap (sets out at) old-named
 
   -- else it is the filler method
-  module _ (i j k l n : ℕ) (e : i ≡ getD w (3072 + m) 0) (all : k ≡ length news) (h : k ≤ i) (f : j ≡ getD w (3136 + m) 0) (every : l ≡ length olds) (g : l ≤ j)
+  module _ (i j k l n : ℕ) (e : i ≡ getD w (3136 + m) 0) (all : k ≡ length news) (h : k ≤ i) (f : j ≡ getD w (3072 + m) 0) (every : l ≡ length olds) (g : l ≤ j)
       (number : (n ≡ firstNumber (isUnnamed (news ++ olds))) × (n < 100)) where
     filler-named : 81 ∷ digits 5 n ≡ tried
-    unfolding trialMethods fillerMethodOf fillerMethod
+    unfolding methodsTried fillerMethod
     filler-named =
-        ap (λ (k : ℕ). numbered (bytes "Q") k) (number .0) ∙
-        ⊎-elim (λ (a : List·Memᴰ tried (joined news olds)). ⊎-elim (λ (b : List·Memᴰ tried news). absurd (unnamed news i (first-is i e) (omega arith) b)) (λ (b : List·Memᴰ tried olds). absurd (unnamed olds j (second-is j f) (omega arith) b)) (joined-of tried news olds a))
-        (λ (a : List·Memᴰ tried (fillerMethodOf (listingOf new) (listingOf old) ∷ [])). sym (List·Memᴰ·eq-of-singleton a))
-        (List·Memᴰ·append-cases (joined news olds) (at-listed (methodsOfBoth old new) m within))
+        ap (λ (k : ℕ). numbered (bytes "Q") k) (number .0)
+        ∙ ⊎-elim (λ (a : List·Memᴰ tried (joined news olds)).
+        ⊎-elim (λ (b : List·Memᴰ tried news). absurd (unnamed news i (in-news i e) (omega arith) b)) (λ (b : List·Memᴰ tried olds). absurd (unnamed olds j (in-olds j f) (omega arith) b)) (joined-of tried news olds a))
+        (λ (a : List·Memᴰ tried (fillerMethod (news ++ olds) ∷ [])). sym (List·Memᴰ·eq-of-singleton a))
+        (List·Memᴰ·append-cases (joined news olds) (at-listed (methodsOfBoth old new w pair) m within))
 
     pub filler-place : (r at : ℕ) → r ≡ at + length (81 ∷ digits 5 n) → r ≡ at + length tried
     filler-place r at p = p ∙ ap (λ (t : Text). at + length t) filler-named
@@ -109,11 +106,11 @@ module _ (old new : Text) (w : List ℕ) (pair : Pair) (T : Telling old new w pa
     filler-bytes out d at p = p ∙ ap (sets out at) filler-named
 
 -- a method of a listing that is held is short
-pub method-short : (s : Text) (t : Tally) (w : List ℕ) (i k : ℕ) (name : Text) → Holds s t w → k ≡ length (listingOf s .methods) → i < k → name ≡ getD (listingOf s .methods) i [] → length name ≤ 1000000
+pub method-short : (s : Text) (t : Tally) (w : List ℕ) (i k : ℕ) (name : Text) → Holds s t w → k ≡ length (viewAt s t w .methods) → i < k → name ≡ getD (viewAt s t w .methods) i [] → length name ≤ 1000000
 unfolding isMethodName
 method-short s t w i k name H all h e =
-    let n : Text = getD (listingOf s .methods) i [] in
-    let l = made-short isToken 1 24 n (accepted-proper s (H .accepts) .good-methods n (member-at (listingOf s .methods) i (rw all at h))) in
+    let n : Text = getD (viewAt s t w .methods) i [] in
+    let l = made-short isToken 1 24 n (H .proper .good-methods n (member-at (viewAt s t w .methods) i (rw all at h))) in
     rw e (omega arith)
 
 pub method-there : (i k : ℕ) (ms : List Text) → k ≡ length ms → i < k → i < length ms

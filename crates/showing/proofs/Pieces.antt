@@ -7,52 +7,51 @@ use mathlib.Core.Option as Opt
 use Prim.Native.Nat.{ℕ, zero, suc, _+_, _-_, _≤_, _<_}
 use native.Mathlib.Omega.{arith}
 use native.Mathlib.Decide.{decLt}
-use lib.ListN.{length, getD, drop, length-append, length-drop}
+use lib.ListN.{length, getD, drop, length-append}
 use lib.Seq.{sets}
-use borrow.Author.Tests.{lt-ltb, le-ltb}
 use Rattle.text.specs.Texts.{Text, bytes, slash, dot, part}
 use Rattle.text.specs.Bytes.{isText, isToken}
 use Rattle.text.proofs.Spans.{from-on}
 use Rattle.text.proofs.Indices.{member-at}
-use Rattle.listings.specs.Names.{isPattern, isMethodName}
-use Rattle.listings.specs.Patterns.{PatternKind, exact, prefix, extension, default, unpermitted, kindOf, Shape}
-use Rattle.listings.specs.Listings.{listingOf, patternsOf}
-use Rattle.listings.proofs.Plainly.{shape}
+use Rattle.names.specs.Names.{isPattern, isMethodName}
+use Rattle.names.specs.Patterns.{PatternKind, exact, prefix, extension, default, unpermitted, kindOf, Shape}
+use Rattle.names.proofs.Plainly.{shape}
 use Rattle.reading.specs.Holds.{Holds}
-use Rattle.reading.specs.declared.tables.Tally.{Tally}
-use Rattle.reading.proofs.Accepted.{accepted-proper}
-use Rattle.deciding.proofs.Strengths.{at-listed}
+use Rattle.reading.specs.Views.{View, ProperView, texts, viewAt}
+use Rattle.entries.specs.declared.tables.Tally.{Tally}
+use Rattle.matching.proofs.Strengths.{at-listed}
 use Rattle.writing.proofs.Decimals.{digits-most}
 use Rattle.writing.proofs.Puts.{sets-then}
 use Rattle.trials.specs.Trials.{below}
 use Rattle.trials.specs.Answers.{lineOf, callerFields, answerOf}
-use Rattle.trials.proofs.Bounds.{made-short, role-made, method-good}
+use Rattle.trials.proofs.Bounds.{made-short, role-made, tried-good}
 use Rattle.grants.specs.Sides.{callerAt, Showable}
-use Rattle.grants.specs.Scratch.{textsOf, stemPath}
+use Rattle.grants.specs.Scratch.{stemPath}
 use Rattle.walks.specs.Walks.{kindAt, ending, hitPath}
 use Rattle.walks.proofs.Hits.{kind-line, kind-behind, ending-some}
 use Rattle.showing.specs.Shown.{linesOfBoth, methodsOfBoth, fillerAt, Telling, EndingIn, FoundIn, foundRequest, foundHead, foundTail}
 use Rattle.showing.specs.declared.hits.Found.{Found}
-use Rattle.showing.proofs.StemPaths.{pattern-short, tail-short}
+use Rattle.showing.proofs.StemPaths.{tail-short}
 use Rattle.numbers.specs.declared.pairs.Pair.{Pair}
-use Rattle.numbers.specs.Writes.{Both}
+use Rattle.numbers.specs.Writes.{Both, oldView, newView, oldTexts, newTexts}
 
--- ---- the lines of both listings
-pub line-total : (ns os : List Text) (a b : ℕ) → a ≡ length ns → b ≡ length os → a + b ≡ length (ns ++ os)
-line-total ns os a b p q = omega (arith, length-append ns os)
+-- ---- the lines of both views
+pub line-total : (us vs : List Text) (a b : ℕ) → a ≡ length us → b ≡ length vs → a + b ≡ length (us ++ vs)
+line-total us vs a b p q = omega (arith, length-append us vs)
 
 -- there are 256 at most
-pub lines-fit : (old new : Text) (wo wn : List ℕ) (pair : Pair) → Both old new wo wn pair → (a b : ℕ) → a ≡ length (patternsOf (listingOf new)) → b ≡ length (patternsOf (listingOf old)) → a + b < 18446744073709551616
-lines-fit old new wo wn pair B a b p q = omega (arith, accepted-proper new (B .news .accepts) .few-patterns, accepted-proper old (B .olds .accepts) .few-patterns)
+pub lines-fit : (old new : Text) (wo wn : List ℕ) (pair : Pair) → Both old new wo wn pair → (a b : ℕ) → a ≡ length (newTexts new wn pair) → b ≡ length (oldTexts old wo pair) → a + b < 18446744073709551616
+lines-fit old new wo wn pair B a b p q = omega (arith, B .news .proper .few-patterns, B .olds .proper .few-patterns)
 
 pub line-there : (n j : ℕ) (ts : List Text) → n ≡ length ts → j < n → j < length ts
 line-there n j ts e h = omega arith
 
 -- each is a pattern
-pub line-pattern : (old new : Text) (w : List ℕ) (pair : Pair) → Telling old new w pair → (j : ℕ) (t : Text) → j < length (linesOfBoth old new) → t ≡ getD (linesOfBoth old new) j [] → isPattern t ≡ true
+pub line-pattern : (old new : Text) (w : List ℕ) (pair : Pair) → Telling old new w pair → (j : ℕ) (t : Text) → j < length (linesOfBoth old new w pair) → t ≡ getD (linesOfBoth old new w pair) j []
+    → isPattern t ≡ true
 line-pattern old new w pair T j t h e =
-    rw e (⊎-elim (accepted-proper new (T .both .news .accepts) .good-patterns (getD (linesOfBoth old new) j [])) (accepted-proper old (T .both .olds .accepts) .good-patterns (getD (linesOfBoth old new) j []))
-    (List·Memᴰ·append-cases (patternsOf (listingOf new)) (at-listed (linesOfBoth old new) j h)))
+    let u : Text = getD (linesOfBoth old new w pair) j [] in
+    rw e (⊎-elim (T .both .news .proper .good-patterns u) (T .both .olds .proper .good-patterns u) (List·Memᴰ·append-cases (texts (newView new w pair)) (at-listed (linesOfBoth old new w pair) j h)))
 
 -- ---- the stem
 module _ (ts : List Text) (n j k : ℕ) (total : k ≡ length ts) where
@@ -154,14 +153,12 @@ ending-most ts (suc i) short E =
     let v : length (ending ts (suc i)) ≡ length (dot ∷ E .1) = ap (λ (k : ℕ). length (ending ts k)) (sym u) ∙ ap length (ending-some ts i (E .1) (E .0) (E .2)) in
     omega arith
 
-module _ (old new : Text) (w : List ℕ) (pair : Pair) (T : Telling old new w pair) (f : Found) (F : FoundIn old new f) (n : ℕ) where
+module _ (old new : Text) (w : List ℕ) (pair : Pair) (T : Telling old new w pair) (f : Found) (F : FoundIn (oldView old w pair) (newView new w pair) f) (n : ℕ) where
   abbrev lines : List Text
-  lines = linesOfBoth old new
+  lines = linesOfBoth old new w pair
 
   texts-short : (t : Text) → List·Memᴰ t lines → length t ≤ 255
-  texts-short t m =
-      ⊎-elim (accepted-proper new (T .both .news .accepts) .short-patterns t) (accepted-proper old (T .both .olds .accepts) .short-patterns t)
-      (List·Memᴰ·append-cases (patternsOf (listingOf new)) m)
+  texts-short t m = ⊎-elim (T .both .news .proper .short-patterns t) (T .both .olds .proper .short-patterns t) (List·Memᴰ·append-cases (texts (newView new w pair)) m)
 
   abbrev path : Text
   path = hitPath (fillerAt n) lines (f .stem) (f .ending)
@@ -182,12 +179,6 @@ module _ (old new : Text) (w : List ℕ) (pair : Pair) (T : Telling old new w pa
     path-bytes out d d′ p q = sets-then out d d′ (stemPath (fillerAt n) (kindAt lines (f .stem))) (ending lines (f .ending)) at a at₁ p q
 
   -- ---- the answer, piece by piece
-  abbrev method : Text
-  method = getD (methodsOfBoth old new) (f .method) []
-
-  abbrev line : Text
-  line = lineOf (callerFields (callerAt (listingOf new .roles) (f .caller)))
-
   -- before the method
   module _ (a b r : ℕ) (at₁ : a ≡ 19) (at₂ : b ≡ a + length path) where
     pub path-near : b ≤ 1000000
@@ -197,51 +188,52 @@ module _ (old new : Text) (w : List ℕ) (pair : Pair) (T : Telling old new w pa
       pub head-near : r ≤ 1000
       head-near = omega (arith, path-short)
 
-      pub head-place : r ≡ 0 + length (foundHead old new n f)
+      pub head-place : r ≡ 0 + length (foundHead (oldView old w pair) (newView new w pair) n f)
       head-place = omega (arith, length-append (bytes "verdict\twider\npath\t") path, length-append (bytes "verdict\twider\npath\t" ++ path) (bytes "\nmethod\t"))
 
       pub head-bytes : (out o₁ o₂ o₃ : Text) → o₁ ≡ sets out 0 (bytes "verdict\twider\npath\t") → o₂ ≡ sets o₁ a path → o₃ ≡ sets o₂ b (bytes "\nmethod\t")
-          → o₃ ≡ sets out 0 (foundHead old new n f)
+          → o₃ ≡ sets out 0 (foundHead (oldView old w pair) (newView new w pair) n f)
       head-bytes out o₁ o₂ o₃ p q s =
           let e : b ≡ 0 + length (bytes "verdict\twider\npath\t" ++ path) = omega (arith, length-append (bytes "verdict\twider\npath\t") path) in
           sets-then out o₂ o₃ (bytes "verdict\twider\npath\t" ++ path) (bytes "\nmethod\t") 0 b e (sets-then out o₁ o₂ (bytes "verdict\twider\npath\t") path 0 a at₁ p q) s
 
 -- from the method on
-module _ (old new : Text) (w : List ℕ) (pair : Pair) (T : Telling old new w pair) (f : Found) (F : FoundIn old new f) (at a b : ℕ)
-    (in-reach : at ≤ 1000) (at₁ : a ≡ at + length (getD (methodsOfBoth old new) (f .method) [])) where
-  tried-short : length (getD (methodsOfBoth old new) (f .method) []) ≤ 24
+module _ (old new : Text) (w : List ℕ) (pair : Pair) (T : Telling old new w pair) (f : Found) (F : FoundIn (oldView old w pair) (newView new w pair) f) where
+  abbrev method : Text
+  method = getD (methodsOfBoth old new w pair) (f .method) []
+
+  abbrev line : Text
+  line = lineOf (callerFields (callerAt (newView new w pair .roles) (f .caller)))
+
+  tried-short : length method ≤ 24
   unfolding isMethodName
   tried-short =
-      let m : Text = getD (methodsOfBoth old new) (f .method) [] in
-      made-short isToken 1 24 m (method-good (listingOf new) (listingOf old) (accepted-proper new (T .both .news .accepts)) (accepted-proper old (T .both .olds .accepts)) m (at-listed (methodsOfBoth old new) (f .method) (F .method)))
+      made-short isToken 1 24 method
+      (tried-good (oldView old w pair .methods) (newView new w pair .methods) (T .both .olds .proper .good-methods) (T .both .news .proper .good-methods) method
+      (at-listed (methodsOfBoth old new w pair) (f .method) (F .method)))
 
-  pub method-near : a ≤ 1000000
-  method-near = omega (arith, tried-short)
+  module _ (at a b : ℕ) (in-reach : at ≤ 1000) (at₁ : a ≡ at + length method) where
+    pub method-near : a ≤ 1000000
+    method-near = omega (arith, tried-short)
 
-  module _ (at₂ : b ≡ a + 1) where
-    pub caller-near : b ≤ 10000
-    caller-near = omega (arith, tried-short)
+    module _ (at₂ : b ≡ a + 1) where
+      pub caller-near : b ≤ 10000
+      caller-near = omega (arith, tried-short)
 
-    abbrev named : Text
-    named = getD (methodsOfBoth old new) (f .method) []
+      pub tail-place : (r : ℕ) → r ≡ b + length line → r ≡ at + length (foundTail (oldView old w pair) (newView new w pair) f)
+      tail-place r p = omega (arith, length-append method (bytes "\n"), length-append (method ++ bytes "\n") line)
 
-    abbrev told : Text
-    told = lineOf (callerFields (callerAt (listingOf new .roles) (f .caller)))
-
-    pub tail-place : (r : ℕ) → r ≡ b + length told → r ≡ at + length (foundTail old new f)
-    tail-place r p = omega (arith, length-append named (bytes "\n"), length-append (named ++ bytes "\n") told)
-
-    pub tail-bytes : (out o₁ o₂ o₃ : Text) → o₁ ≡ sets out at named → o₂ ≡ sets o₁ a (bytes "\n") → o₃ ≡ sets o₂ b told → o₃ ≡ sets out at (foundTail old new f)
-    tail-bytes out o₁ o₂ o₃ p q s =
-        let e : b ≡ at + length (named ++ bytes "\n") = omega (arith, length-append named (bytes "\n")) in
-        sets-then out o₂ o₃ (named ++ bytes "\n") told at b e (sets-then out o₁ o₂ named (bytes "\n") at a at₁ p q) s
+      pub tail-bytes : (out o₁ o₂ o₃ : Text) → o₁ ≡ sets out at method → o₂ ≡ sets o₁ a (bytes "\n") → o₃ ≡ sets o₂ b line → o₃ ≡ sets out at (foundTail (oldView old w pair) (newView new w pair) f)
+      tail-bytes out o₁ o₂ o₃ p q s =
+          let e : b ≡ at + length (method ++ bytes "\n") = omega (arith, length-append method (bytes "\n")) in
+          sets-then out o₂ o₃ (method ++ bytes "\n") line at b e (sets-then out o₁ o₂ method (bytes "\n") at a at₁ p q) s
 
 -- both together are the answer
-both-parts : (old new : Text) (n : ℕ) (f : Found) → foundHead old new n f ++ foundTail old new f ≡ answerOf (Opt.some (foundRequest old new n f))
+both-parts : (old new : View) (n : ℕ) (f : Found) → foundHead old new n f ++ foundTail old new f ≡ answerOf (Opt.some (foundRequest old new n f))
 unfolding answerOf lineOf
 both-parts old new n f = simp append-assoc
 
-module _ (old new : Text) (n : ℕ) (f : Found) (a r : ℕ) (at₁ : a ≡ 0 + length (foundHead old new n f)) where
+module _ (old new : View) (n : ℕ) (f : Found) (a r : ℕ) (at₁ : a ≡ 0 + length (foundHead old new n f)) where
   pub answer-size : r ≡ a + length (foundTail old new f) → r ≡ length (answerOf (Opt.some (foundRequest old new n f)))
   answer-size p = rw (← both-parts old new n f) (omega (arith, length-append (foundHead old new n f) (foundTail old new f)))
 
@@ -257,18 +249,18 @@ pub role-there : (ns : List Text) (c : ℕ) → Showable ns c → (c ≡ 0 → �
 role-there ns c S h = let k = S .other in let w = S .within in omega arith
 
 -- a role's name is short
-role-most : (s : Text) (t : Tally) (w : List ℕ) (c : ℕ) (name : Text) → Holds s t w → Showable (listingOf s .roles) c → (c ≡ 0 → ⊥) → name ≡ getD (listingOf s .roles) (c - 2) [] → length name ≤ 64
-role-most s t w c name H S h e =
-    let n : Text = getD (listingOf s .roles) (c - 2) [] in
-    rw e (made-short isText 1 64 n (role-made n (accepted-proper s (H .accepts) .good-roles n (member-at (listingOf s .roles) (c - 2) (role-there (listingOf s .roles) c S h)))))
+role-most : (v : View) (c : ℕ) → ProperView v → Showable (v .roles) c → (c ≡ 0 → ⊥) → length (getD (v .roles) (c - 2) []) ≤ 64
+role-most v c P S h =
+    let n : Text = getD (v .roles) (c - 2) [] in
+    made-short isText 1 64 n (role-made n (P .good-roles n (member-at (v .roles) (c - 2) (role-there (v .roles) c S h))))
 
-pub role-short : (s : Text) (t : Tally) (w : List ℕ) (c : ℕ) (name : Text) → Holds s t w → Showable (listingOf s .roles) c → (c ≡ 0 → ⊥) → name ≡ getD (listingOf s .roles) (c - 2) [] → length name ≤ 1000000
-role-short s t w c name H S h e = omega (arith, role-most s t w c name H S h e)
+module _ (s : Text) (t : Tally) (w : List ℕ) (c : ℕ) (name : Text) (H : Holds s t w) (S : Showable (viewAt s t w .roles) c) (some : c ≡ 0 → ⊥) (e : name ≡ getD (viewAt s t w .roles) (c - 2) []) where
+  pub role-short : length name ≤ 1000000
+  role-short = rw e (omega (arith, role-most (viewAt s t w) c (H .proper) S some))
 
--- so is what stands before its line's end
-pub role-near : (s : Text) (t : Tally) (w : List ℕ) (c : ℕ) (name : Text) → Holds s t w → Showable (listingOf s .roles) c → (c ≡ 0 → ⊥) → name ≡ getD (listingOf s .roles) (c - 2) []
-    → (at a b : ℕ) → at ≤ 10000 → a ≡ at + 12 → b ≡ a + length name → b ≤ 1000000
-role-near s t w c name H S h e at a b l p q = omega (arith, role-most s t w c name H S h e)
+  -- so is what stands before its line's end
+  pub role-near : (at a b : ℕ) → at ≤ 10000 → a ≡ at + 12 → b ≡ a + length name → b ≤ 1000000
+  role-near at a b l p q = omega (arith, ap length e, role-most (viewAt s t w) c (H .proper) S some)
 
 -- the line with the role of caller c
 role-line : (ns : List Text) (c : ℕ) (name : Text) → (c ≡ 0 → ⊥) → (c ≡ 1 → ⊥) → name ≡ getD ns (c - 2) [] → (bytes "caller\trole\t" ++ name) ++ bytes "\n" ≡ lineOf (callerFields (callerAt ns c))
@@ -300,3 +292,28 @@ module _ (ns : List Text) (c : ℕ) (out : Text) (at : ℕ) where
         let e : b ≡ at + length (bytes "caller\trole\t" ++ name) = omega arith in
         rw (← role-line ns c name some (S .other) named)
         (sets-then out d₂ d₃ (bytes "caller\trole\t" ++ name) (bytes "\n") at b e (sets-then out d₁ d₂ (bytes "caller\trole\t") name at a at₁ p q) s)
+
+-- ---- the whole answer is short
+line-short : (v : View) (c : ℕ) → ProperView v → Showable (v .roles) c → length (lineOf (callerFields (callerAt (v .roles) c))) ≤ 77
+line-short v c P S = go (decLt 0 c)
+  where
+    go : Dec (0 < c) → length (lineOf (callerFields (callerAt (v .roles) c))) ≤ 77
+    go (yes h) =
+        let name : Text = getD (v .roles) (c - 2) [] in
+        let some : c ≡ 0 → ⊥ = λ e. omega arith in
+        let z = ap length (role-line (v .roles) c name some (S .other) refl) in
+        omega (arith, length-append (bytes "caller\trole\t" ++ name) (bytes "\n"), length-append (bytes "caller\trole\t") name, role-most v c P S some)
+    go (no h) = let z = none-place (v .roles) c [] 0 12 (omega arith) refl in omega arith
+
+pub wider-short : (old new : Text) (w : List ℕ) (pair : Pair) → Telling old new w pair → (f : Found) → FoundIn (oldView old w pair) (newView new w pair) f → (n : ℕ)
+    → length (answerOf (Opt.some (foundRequest (oldView old w pair) (newView new w pair) n f))) ≤ 1024
+wider-short old new w pair T f F n =
+    let ov : View = oldView old w pair in
+    let nv : View = newView new w pair in
+    let line : Text = lineOf (callerFields (callerAt (nv .roles) (f .caller))) in
+    let tried : Text = getD (methodsOfBoth old new w pair) (f .method) [] in
+    let h : 27 + length (foundRequest ov nv n f .path) ≡ 0 + length (foundHead ov nv n f) = head-place old new w pair T f F n 19 (19 + length (foundRequest ov nv n f .path)) _ refl refl (omega arith) in
+    let t = length-append (tried ++ bytes "\n") line in
+    let u = length-append tried (bytes "\n") in
+    let z = ap length (both-parts ov nv n f) in
+    omega (arith, path-short old new w pair T f F n, tried-short old new w pair T f F, line-short nv (f .caller) (T .both .news .proper) (F .caller), length-append (foundHead ov nv n f) (foundTail ov nv f))

@@ -8,12 +8,12 @@ use lib.ListN.{length, take, drop, length-append, length-drop}
 use lib.Seq.{sets}
 use Rattle.text.specs.Texts.{Text, bytes, slash, dot, same, startsWith, endsWith, part}
 use Rattle.text.specs.Bytes.{isText}
-use Rattle.listings.specs.Names.{madeOf, isPattern}
-use Rattle.listings.specs.Patterns.{exact, prefix, extension, unpermitted, isExtension, kindOf, isPermitted}
+use Rattle.names.specs.Names.{madeOf, isPattern}
+use Rattle.names.specs.Patterns.{exact, prefix, extension, unpermitted, isExtension, kindOf, isPermitted}
 use Rattle.text.proofs.Truths.{never, and-left, and-right}
 use Rattle.text.proofs.Spans.{same-equal, from-on}
-use Rattle.listings.proofs.Namings.{filled-differs}
-use Rattle.listings.proofs.Plainly.{starts-plain}
+use Rattle.names.proofs.Namings.{filled-differs}
+use Rattle.names.proofs.Plainly.{starts-plain}
 use Rattle.writing.specs.Decimals.{digits}
 use Rattle.writing.proofs.Decimals.{digits-most}
 use Rattle.writing.proofs.Puts.{sets-then}

@@ -5,21 +5,21 @@ ghost use mathlib.Core.Option.{some};
 ghost use Prim.Native.Nat.{_+_, _≤_, _<_};
 ghost use lib.ListN.{length, getD};
 ghost use lib.Seq.{sets};
-ghost use Rattle.listings.specs.Listings.{listingOf};
 ghost use Rattle.reading.specs.Holds.{Holds};
+ghost use Rattle.reading.specs.Views.{viewAt};
 ghost use Rattle.trials.specs.Answers.{lineOf, callerFields, answerOf};
 ghost use Rattle.grants.specs.Sides.{callerAt, Showable};
 ghost use Rattle.grants.specs.Scratch.{stemPath};
 ghost use Rattle.walks.specs.Walks.{kindAt, ending, hitPath};
-ghost use Rattle.numbers.specs.Writes.{BothHeld};
+ghost use Rattle.numbers.specs.Writes.{BothHeld, oldView, newView};
 ghost use Rattle.showing.specs.Shown.{linesOfBoth, methodsOfBoth, fillerAt, Telling, EndingIn, FoundIn, foundRequest, foundHead, foundTail};
 use crate::paths;
+use entries::tables;
+use entries::tables::Tally;
 use fillers::finding;
 use numbers::pairs::Pair;
 use numbers::stems;
 use reading::held;
-use reading::tables;
-use reading::tables::Tally;
 
 // The numbers of a hit: its stem; the extension behind it, counted from 1, or 0 where there is none; the trial method; the caller.
 pub struct Found {
@@ -37,16 +37,16 @@ pub fn line_text<'a, 'b>(
     pair: Pair,
     j: usize,
 ) -> &'a [u8]
-    requires { ⌜ BothHeld (now old) (now new) (now w) pair × ((2048 ≤ length (now w)) × (j < length (linesOfBoth (now old) (now new)))) ⌝ }
-    ensures { λ r. ⌜ now r ≡ getD (linesOfBoth (now (old .entry)) (now (new .entry))) j [] ⌝ }
+    requires { ⌜ BothHeld (now old) (now new) (now w) pair × ((2048 ≤ length (now w)) × (j < length (linesOfBoth (now old) (now new) (now w) pair))) ⌝ }
+    ensures { λ r. ⌜ now r ≡ getD (linesOfBoth (now (old .entry)) (now (new .entry)) (now (w .entry)) pair) j [] ⌝ }
 {
     stems::line_text(old, new, &w[0..1024], &w[1024..2048], pair, j)
 }
 
-// How many pattern lines both listings have.
+// How many pattern lines both have.
 pub fn line_count(old: &[u8], new: &[u8], w: &[u32], pair: Pair) -> usize
     requires { ⌜ BothHeld (now old) (now new) (now w) pair × (2048 ≤ length (now w)) ⌝ }
-    ensures { λ r. ⌜ r ≡ length (linesOfBoth (now (old .entry)) (now (new .entry))) ⌝ }
+    ensures { λ r. ⌜ r ≡ length (linesOfBoth (now (old .entry)) (now (new .entry)) (now (w .entry)) pair) ⌝ }
 {
     let to = pair.old;
     let tn = pair.new;
@@ -65,8 +65,8 @@ pub fn put_stem<'a, 'b>(
     at: usize,
 ) -> usize
     requires { ⌜ Telling (now old) (now new) (now w) pair × (at ≤ 1000) ⌝ }
-    ensures place { λ r. ⌜ r ≡ at + length (stemPath (fillerAt n) (kindAt (linesOfBoth (now (old .entry)) (now (new .entry))) j)) ⌝ }
-    ensures bytes { λ _. ⌜ now (out .exit) ≡ sets (now (out .entry)) at (stemPath (fillerAt n) (kindAt (linesOfBoth (now (old .entry)) (now (new .entry))) j)) ⌝ }
+    ensures place { λ r. ⌜ r ≡ at + length (stemPath (fillerAt n) (kindAt (linesOfBoth (now (old .entry)) (now (new .entry)) (now (w .entry)) pair) j)) ⌝ }
+    ensures bytes { λ _. ⌜ now (out .exit) ≡ sets (now (out .entry)) at (stemPath (fillerAt n) (kindAt (linesOfBoth (now (old .entry)) (now (new .entry)) (now (w .entry)) pair) j)) ⌝ }
 {
     if j < line_count(old, new, w, pair) {
         return paths::put_stem(out, at, line_text(old, new, w, pair, j), n);
@@ -84,9 +84,9 @@ pub fn put_ending<'a, 'b>(
     out: &mut [u8],
     at: usize,
 ) -> usize
-    requires { ⌜ Telling (now old) (now new) (now w) pair × (EndingIn (linesOfBoth (now old) (now new)) e × (at ≤ 2000)) ⌝ }
-    ensures place { λ r. ⌜ r ≡ at + length (ending (linesOfBoth (now (old .entry)) (now (new .entry))) e) ⌝ }
-    ensures bytes { λ _. ⌜ now (out .exit) ≡ sets (now (out .entry)) at (ending (linesOfBoth (now (old .entry)) (now (new .entry))) e) ⌝ }
+    requires { ⌜ Telling (now old) (now new) (now w) pair × (EndingIn (linesOfBoth (now old) (now new) (now w) pair) e × (at ≤ 2000)) ⌝ }
+    ensures place { λ r. ⌜ r ≡ at + length (ending (linesOfBoth (now (old .entry)) (now (new .entry)) (now (w .entry)) pair) e) ⌝ }
+    ensures bytes { λ _. ⌜ now (out .exit) ≡ sets (now (out .entry)) at (ending (linesOfBoth (now (old .entry)) (now (new .entry)) (now (w .entry)) pair) e) ⌝ }
 {
     if e == 0 {
         return at;
@@ -105,17 +105,17 @@ pub fn put_method(
     out: &mut [u8],
     at: usize,
 ) -> usize
-    requires { ⌜ Telling (now old) (now new) (now w) pair × ((m < length (methodsOfBoth (now old) (now new))) × (at ≤ 10000)) ⌝ }
-    ensures place { λ r. ⌜ r ≡ at + length (getD (methodsOfBoth (now (old .entry)) (now (new .entry))) m []) ⌝ }
-    ensures bytes { λ _. ⌜ now (out .exit) ≡ sets (now (out .entry)) at (getD (methodsOfBoth (now (old .entry)) (now (new .entry))) m []) ⌝ }
+    requires { ⌜ Telling (now old) (now new) (now w) pair × ((m < length (methodsOfBoth (now old) (now new) (now w) pair)) × (at ≤ 10000)) ⌝ }
+    ensures place { λ r. ⌜ r ≡ at + length (getD (methodsOfBoth (now (old .entry)) (now (new .entry)) (now (w .entry)) pair) m []) ⌝ }
+    ensures bytes { λ _. ⌜ now (out .exit) ≡ sets (now (out .entry)) at (getD (methodsOfBoth (now (old .entry)) (now (new .entry)) (now (w .entry)) pair) m []) ⌝ }
 {
     let to = pair.old;
     let tn = pair.new;
-    let i = tables::wide(w[3072 + m]);
+    let i = tables::wide(w[3136 + m]);
     if i < held::method_count(new, &w[1024..2048], tn) {
         return writing::put(out, at, held::method(new, &w[1024..2048], tn, i));
     }
-    let j = tables::wide(w[3136 + m]);
+    let j = tables::wide(w[3072 + m]);
     if j < held::method_count(old, &w[0..1024], to) {
         return writing::put(out, at, held::method(old, &w[0..1024], to, j));
     }
@@ -125,9 +125,9 @@ pub fn put_method(
 
 // The line of caller c of new: 0 not logged in, i + 2 with role i.
 pub fn put_caller(new: &[u8], wn: &[u32], tn: Tally, c: usize, out: &mut [u8], at: usize) -> usize
-    requires { ⌜ Holds (now new) tn (now wn) × (Showable (listingOf (now new) .roles) c × (at ≤ 10000)) ⌝ }
-    ensures place { λ r. ⌜ r ≡ at + length (lineOf (callerFields (callerAt (listingOf (now (new .entry)) .roles) c))) ⌝ }
-    ensures bytes { λ _. ⌜ now (out .exit) ≡ sets (now (out .entry)) at (lineOf (callerFields (callerAt (listingOf (now (new .entry)) .roles) c))) ⌝ }
+    requires { ⌜ Holds (now new) tn (now wn) × (Showable (viewAt (now new) tn (now wn) .roles) c × (at ≤ 10000)) ⌝ }
+    ensures place { λ r. ⌜ r ≡ at + length (lineOf (callerFields (callerAt (viewAt (now (new .entry)) tn (now (wn .entry)) .roles) c))) ⌝ }
+    ensures bytes { λ _. ⌜ now (out .exit) ≡ sets (now (out .entry)) at (lineOf (callerFields (callerAt (viewAt (now (new .entry)) tn (now (wn .entry)) .roles) c))) ⌝ }
 {
     if c == 0 {
         return writing::put(out, at, b"caller\tnone\n");
@@ -148,9 +148,9 @@ pub fn put_path<'a, 'b>(
     out: &mut [u8],
     at: usize,
 ) -> usize
-    requires { ⌜ Telling (now old) (now new) (now w) pair × (FoundIn (now old) (now new) f × (at ≤ 1000)) ⌝ }
-    ensures place { λ r. ⌜ r ≡ at + length (hitPath (fillerAt n) (linesOfBoth (now (old .entry)) (now (new .entry))) (f .stem) (f .ending)) ⌝ }
-    ensures bytes { λ _. ⌜ now (out .exit) ≡ sets (now (out .entry)) at (hitPath (fillerAt n) (linesOfBoth (now (old .entry)) (now (new .entry))) (f .stem) (f .ending)) ⌝ }
+    requires { ⌜ Telling (now old) (now new) (now w) pair × (FoundIn (oldView (now old) (now w) pair) (newView (now new) (now w) pair) f × (at ≤ 1000)) ⌝ }
+    ensures place { λ r. ⌜ r ≡ at + length (hitPath (fillerAt n) (linesOfBoth (now (old .entry)) (now (new .entry)) (now (w .entry)) pair) (f .stem) (f .ending)) ⌝ }
+    ensures bytes { λ _. ⌜ now (out .exit) ≡ sets (now (out .entry)) at (hitPath (fillerAt n) (linesOfBoth (now (old .entry)) (now (new .entry)) (now (w .entry)) pair) (f .stem) (f .ending)) ⌝ }
 {
     let stem = f.stem;
     let ending = f.ending;
@@ -168,10 +168,10 @@ pub fn put_head<'a, 'b>(
     f: Found,
     out: &mut [u8],
 ) -> usize
-    requires { ⌜ Telling (now old) (now new) (now w) pair × FoundIn (now old) (now new) f ⌝ }
-    ensures place { λ r. ⌜ r ≡ 0 + length (foundHead (now (old .entry)) (now (new .entry)) n f) ⌝ }
+    requires { ⌜ Telling (now old) (now new) (now w) pair × FoundIn (oldView (now old) (now w) pair) (newView (now new) (now w) pair) f ⌝ }
+    ensures place { λ r. ⌜ r ≡ 0 + length (foundHead (oldView (now (old .entry)) (now (w .entry)) pair) (newView (now (new .entry)) (now (w .entry)) pair) n f) ⌝ }
     ensures near { λ r. ⌜ r ≤ 1000 ⌝ }
-    ensures bytes { λ _. ⌜ now (out .exit) ≡ sets (now (out .entry)) 0 (foundHead (now (old .entry)) (now (new .entry)) n f) ⌝ }
+    ensures bytes { λ _. ⌜ now (out .exit) ≡ sets (now (out .entry)) 0 (foundHead (oldView (now (old .entry)) (now (w .entry)) pair) (newView (now (new .entry)) (now (w .entry)) pair) n f) ⌝ }
 {
     let a = writing::put(out, 0, b"verdict\twider\npath\t");
     let b = put_path(old, new, w, pair, n, f, out, a);
@@ -188,9 +188,9 @@ pub fn put_tail(
     out: &mut [u8],
     at: usize,
 ) -> usize
-    requires { ⌜ Telling (now old) (now new) (now w) pair × (FoundIn (now old) (now new) f × (at ≤ 1000)) ⌝ }
-    ensures place { λ r. ⌜ r ≡ at + length (foundTail (now (old .entry)) (now (new .entry)) f) ⌝ }
-    ensures bytes { λ _. ⌜ now (out .exit) ≡ sets (now (out .entry)) at (foundTail (now (old .entry)) (now (new .entry)) f) ⌝ }
+    requires { ⌜ Telling (now old) (now new) (now w) pair × (FoundIn (oldView (now old) (now w) pair) (newView (now new) (now w) pair) f × (at ≤ 1000)) ⌝ }
+    ensures place { λ r. ⌜ r ≡ at + length (foundTail (oldView (now (old .entry)) (now (w .entry)) pair) (newView (now (new .entry)) (now (w .entry)) pair) f) ⌝ }
+    ensures bytes { λ _. ⌜ now (out .exit) ≡ sets (now (out .entry)) at (foundTail (oldView (now (old .entry)) (now (w .entry)) pair) (newView (now (new .entry)) (now (w .entry)) pair) f) ⌝ }
 {
     let tn = pair.new;
     let method = f.method;
@@ -210,9 +210,9 @@ pub fn put_wider<'a, 'b>(
     f: Found,
     out: &mut [u8],
 ) -> usize
-    requires { ⌜ Telling (now old) (now new) (now w) pair × FoundIn (now old) (now new) f ⌝ }
-    ensures size { λ r. ⌜ r ≡ length (answerOf (some (foundRequest (now (old .entry)) (now (new .entry)) n f))) ⌝ }
-    ensures bytes { λ _. ⌜ now (out .exit) ≡ sets (now (out .entry)) 0 (answerOf (some (foundRequest (now (old .entry)) (now (new .entry)) n f))) ⌝ }
+    requires { ⌜ Telling (now old) (now new) (now w) pair × FoundIn (oldView (now old) (now w) pair) (newView (now new) (now w) pair) f ⌝ }
+    ensures size { λ r. ⌜ r ≡ length (answerOf (some (foundRequest (oldView (now (old .entry)) (now (w .entry)) pair) (newView (now (new .entry)) (now (w .entry)) pair) n f))) ⌝ }
+    ensures bytes { λ _. ⌜ now (out .exit) ≡ sets (now (out .entry)) 0 (answerOf (some (foundRequest (oldView (now (old .entry)) (now (w .entry)) pair) (newView (now (new .entry)) (now (w .entry)) pair) n f))) ⌝ }
 {
     let a = put_head(old, new, w, pair, n, f, out);
     put_tail(old, new, w, pair, f, out, a)

@@ -9,7 +9,7 @@ use native.Mathlib.Omega.{arith}
 use lib.ListN.{length, length-append, getD, drop}
 use Rattle.text.specs.Texts.{Text, bytes, tab, newline, all, startsWith}
 use Rattle.text.specs.Bytes.{isText, isToken}
-use Rattle.listings.specs.Names.{madeOf, isRoleName, isMethodName}
+use Rattle.names.specs.Names.{madeOf, isRoleName, isMethodName}
 use Rattle.listings.specs.Listings.{Listing}
 use Rattle.listings.specs.Propers.{Proper}
 use Rattle.text.proofs.Truths.{never, and-left, and-right}
@@ -67,15 +67,15 @@ pub wider-length : (r : Request) → 28 ≤ length (answerOf (some r))
 wider-length r = rw (answer-length r) (omega arith)
 
 -- the answer fits every buffer that is not refused
-pub answer-fits : (new old : Listing) → Proper new → Proper old → AnswerFits new old
-answer-fits new old N O = go (verdict new old) refl
+pub answer-fits : (old new : Listing) → Proper old → Proper new → AnswerFits old new
+answer-fits old new O N = go (verdict old new) refl
   where
-    go : (v : Option Request) → verdict new old ≡ v → length (answerOf v) ≤ 1024
+    go : (v : Option Request) → verdict old new ≡ v → length (answerOf v) ≤ 1024
     go none e = rw no-wider-length (omega arith)
     go (some r) e =
-        let S = wider new old N O r e in
-        let T = trial-parts new old r (rw (S .split) (Memᴰ·append-right (S .before) (List·Memᴰ·head refl))) in
-        let p = path-short new old N O (r .path) (T .path-in) in
+        let S = wider old new O N r e in
+        let T = trial-parts old new r (rw (S .split) (Memᴰ·append-right (S .before) (List·Memᴰ·head refl))) in
+        let p = path-short old new O N (r .path) (T .path-in) in
         let m = method-short (r .method) (S .formed .method) in
         let c = caller-short (r .caller) (S .caller) in
         rw (answer-length r) (omega arith)
@@ -156,14 +156,14 @@ none-tells r e =
     omega arith
 
 -- ---- equal answers, equal verdicts
-pub answer-tells : (new old new′ old′ : Listing) → Proper new → Proper old → Proper new′ → Proper old′ → AnswerTells new old new′ old′
-answer-tells new old new′ old′ N O N′ O′ = go (verdict new old) (verdict new′ old′) refl refl
+pub answer-tells : (old new old′ new′ : Listing) → Proper old → Proper new → Proper old′ → Proper new′ → AnswerTells old new old′ new′
+answer-tells old new old′ new′ O N O′ N′ = go (verdict old new) (verdict old′ new′) refl refl
   where
-    go : (v v′ : Option Request) → verdict new old ≡ v → verdict new′ old′ ≡ v′ → answerOf v ≡ answerOf v′ → v ≡ v′
+    go : (v v′ : Option Request) → verdict old new ≡ v → verdict old′ new′ ≡ v′ → answerOf v ≡ answerOf v′ → v ≡ v′
     go none none e f h = refl
     go none (some q) e f h = absurd (none-tells q h)
     go (some r) none e f h = absurd (none-tells r (sym h))
     go (some r) (some q) e f h =
-        let S = wider new old N O r e in
-        let T = wider new′ old′ N′ O′ q f in
+        let S = wider old new O N r e in
+        let T = wider old′ new′ O′ N′ q f in
         ap some (request-tells r q (S .formed) (T .formed) (S .caller) (T .caller) h)

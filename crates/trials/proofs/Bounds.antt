@@ -12,15 +12,16 @@ use borrow.Author.Tests.{le-leb, leb-true, ne-eqb}
 use Rattle.text.specs.Texts.{Text, bytes, newline, slash, dot, all, startsWith, member}
 use Rattle.text.specs.Bytes.{between, isText, isToken}
 use Rattle.text.specs.Lines.{before, linesOf}
-use Rattle.listings.specs.Names.{madeOf, isName, isRoleName, isMethodName, isPattern}
+use Rattle.names.specs.Names.{madeOf, isName, isRoleName, isMethodName, isPattern}
+use Rattle.limits.specs.Limits.{mostMethods}
 use Rattle.listings.specs.Listings.{Listing, patternsOf}
 use Rattle.text.proofs.Truths.{never, and-left, and-right, and-both, or-left, or-right}
 use Rattle.text.proofs.Classes.{text-no-newline}
-use Rattle.listings.proofs.Plainly.{member-plain, member-append}
+use Rattle.names.proofs.Plainly.{member-plain, member-append}
 use Rattle.listings.specs.Propers.{Proper}
 use Rattle.decisions.specs.Requests.{Caller, nobody, Request, isPath, allHeld, callerOf}
-use Rattle.trials.specs.Fillers.{firstNumber, fills, filler, isUnnamed, fillerMethod, fillerOf, fillerMethodOf, First, Filler}
-use Rattle.trials.specs.Trials.{joined, trialPaths, trialMethods, one, trialNames, trialCallers}
+use Rattle.trials.specs.Fillers.{firstNumber, fills, filler, isUnnamed, fillerMethod, fillerOf, First, Filler}
+use Rattle.trials.specs.Trials.{joined, trialPaths, methodsTried, trialMethods, one, trialNames, trialCallers}
 use Rattle.trials.specs.Verdicts.{WellFormed}
 use Rattle.trials.specs.Demands.{NobodyOrOne}
 use Rattle.trials.proofs.Insides.{or-first, or-second}
@@ -30,12 +31,12 @@ use Rattle.trials.proofs.FillersExist.{total, filler-is-first, filler-f
 use Rattle.trials.proofs.Choices.{joined-of}
 
 -- ---- sums
-total-append : (s t : List Text) → total (s ++ t) ≡ total s + total t
+pub total-append : (s t : List Text) → total (s ++ t) ≡ total s + total t
 unfolding total
 total-append [] t = omega arith
 total-append (x ∷ xs) t = let h = total-append xs t in omega arith
 
-total-most : (ts : List Text) → ((t : Text) → List·Memᴰ t ts → length t ≤ 255) → total ts ≤ 255 * length ts
+pub total-most : (ts : List Text) → ((t : Text) → List·Memᴰ t ts → length t ≤ 255) → total ts ≤ 255 * length ts
 unfolding total
 total-most [] h = omega arith
 total-most (t ∷ ts) h =
@@ -129,7 +130,37 @@ each P s t f g x m = ⊎-elim (f x) (g x) (List·Memᴰ·append-cases s m)
 each-joined : (P : Text → Type 0) (s t : List Text) → ((x : Text) → List·Memᴰ x s → P x) → ((x : Text) → List·Memᴰ x t → P x) → (x : Text) → List·Memᴰ x (joined s t) → P x
 each-joined P s t f g x m = ⊎-elim (f x) (g x) (joined-of x s t m)
 
-module _ (new old : Listing) (N : Proper new) (O : Proper old) where
+-- ---- the methods tried, where old has the methods os and new the methods ns
+module _ (os ns : List Text) (few-old : length os ≤ mostMethods) (few-new : length ns ≤ mostMethods) where
+  methods-few : length (ns ++ os) < 100000
+  methods-few = rw (length-append ns os) (omega arith)
+
+  -- the filler method's number is the first that will do, of all numbers
+  unnamed-first : First (isUnnamed (ns ++ os)) 0 (firstNumber (isUnnamed (ns ++ os)))
+  unnamed-first = method-is-first (ns ++ os) methods-few .0
+
+  -- it is named in neither
+  pub unnamed-in-both : (member (fillerMethod (ns ++ os)) ns ≡ false) × (member (fillerMethod (ns ++ os)) os ≡ false)
+  unnamed-in-both =
+      let m : Text = fillerMethod (ns ++ os) in
+      let e = sym (member-append m ns os) ∙ method-unnamed (ns ++ os) methods-few in
+      (or-left (member m ns) (member m os) e, or-right (member m ns) (member m os) e)
+
+-- each of them is a method
+filler-method-good : (ms : List Text) → isMethodName (fillerMethod ms) ≡ true
+unfolding isMethodName
+filler-method-good ms = let s = method-short ms in made isToken 1 24 (fillerMethod ms) (s .0) (omega arith) (method-bytes isToken token-Q digit-token ms)
+
+pub tried-good : (os ns : List Text) → ((m : Text) → member m os ≡ true → isMethodName m ≡ true) → ((m : Text) → member m ns ≡ true → isMethodName m ≡ true)
+    → (x : Text) → List·Memᴰ x (methodsTried os ns) → isMethodName x ≡ true
+unfolding methodsTried
+tried-good os ns good-old good-new x m = go (List·Memᴰ·append-cases (joined ns os) m)
+  where
+    go : List·Memᴰ x (joined ns os) ⊎ List·Memᴰ x (fillerMethod (ns ++ os) ∷ []) → isMethodName x ≡ true
+    go (inl i) = each-joined (λ (t : Text). isMethodName t ≡ true) ns os (λ t k. good-new t (member-plain t ns .1 k)) (λ t k. good-old t (member-plain t os .1 k)) x i
+    go (inr i) = rw (List·Memᴰ·eq-of-singleton i) (filler-method-good (ns ++ os))
+
+module _ (old new : Listing) (O : Proper old) (N : Proper new) where
   texts-small : total (patternsOf new ++ patternsOf old) < 65536
   texts-small =
       let a = total-most (patternsOf new) (N .short-patterns) in
@@ -137,12 +168,6 @@ module _ (new old : Listing) (N : Proper new) (O : Proper old) where
       let c = N .few-patterns in
       let d = O .few-patterns in
       rw (total-append (patternsOf new) (patternsOf old)) (omega arith)
-
-  methods-few : length (new .methods ++ old .methods) < 100000
-  methods-few =
-      let a = N .few-methods in
-      let b = O .few-methods in
-      rw (length-append (new .methods) (old .methods)) (omega arith)
 
   -- their numbers are the first that will do, of all numbers
   pub filler-of-first : First (fills (patternsOf new ++ patternsOf old)) 0 (firstNumber (fills (patternsOf new ++ patternsOf old)))
@@ -153,28 +178,19 @@ module _ (new old : Listing) (N : Proper new) (O : Proper old) where
   filler-of-small = omega (arith, texts-small, filler-is-first (patternsOf new ++ patternsOf old) (omega (arith, texts-small)) .1)
 
   pub method-of-first : First (isUnnamed (new .methods ++ old .methods)) 0 (firstNumber (isUnnamed (new .methods ++ old .methods)))
-  method-of-first = method-is-first (new .methods ++ old .methods) methods-few .0
+  method-of-first = unnamed-first (old .methods) (new .methods) (O .few-methods) (N .few-methods)
 
   -- the filler is one
-  pub filler-of-fills : Filler (fillerOf new old) (patternsOf new ++ patternsOf old)
+  pub filler-of-fills : Filler (fillerOf old new) (patternsOf new ++ patternsOf old)
   unfolding fillerOf
   filler-of-fills = filler-fills (patternsOf new ++ patternsOf old) (omega (arith, texts-small))
 
-  -- the filler method is named in neither
-  pub method-of-unnamed : (member (fillerMethodOf new old) (new .methods) ≡ false) × (member (fillerMethodOf new old) (old .methods) ≡ false)
-  unfolding fillerMethodOf
-  method-of-unnamed =
-      let m : Text = fillerMethod (new .methods ++ old .methods) in
-      let h : member m (new .methods ++ old .methods) ≡ false = method-unnamed (new .methods ++ old .methods) methods-few in
-      let e = sym (member-append m (new .methods) (old .methods)) ∙ h in
-      (or-left (member m (new .methods)) (member m (old .methods)) e, or-right (member m (new .methods)) (member m (old .methods)) e)
-
   -- a trial path has 517 bytes at most
-  form-of : (x : Text) → List·Memᴰ x (trialPaths new old) → Form (fillerOf new old) (patternsOf new ++ patternsOf old) x
+  form-of : (x : Text) → List·Memᴰ x (trialPaths old new) → Form (fillerOf old new) (patternsOf new ++ patternsOf old) x
   unfolding trialPaths
-  form-of x m = trial-form (fillerOf new old) (patternsOf new ++ patternsOf old) x m
+  form-of x m = trial-form (fillerOf old new) (patternsOf new ++ patternsOf old) x m
 
-  pub path-short : (x : Text) → List·Memᴰ x (trialPaths new old) → length x ≤ 517
+  pub path-short : (x : Text) → List·Memᴰ x (trialPaths old new) → length x ≤ 517
   unfolding fillerOf
   path-short x m =
       let ts : List Text = patternsOf new ++ patternsOf old in
@@ -183,12 +199,12 @@ module _ (new old : Listing) (N : Proper new) (O : Proper old) where
       omega arith
 
   -- and is a path
-  pub path-good : (x : Text) → List·Memᴰ x (trialPaths new old) → isPath x ≡ true
+  pub path-good : (x : Text) → List·Memᴰ x (trialPaths old new) → isPath x ≡ true
   unfolding isPath fillerOf
   path-good x m =
       let ts : List Text = patternsOf new ++ patternsOf old in
       let F = form-of x m in
-      let r : rooted x = form-rooted (fillerOf new old) ts x F in
+      let r : rooted x = form-rooted (fillerOf old new) ts x F in
       let s = path-short x m in
       let some = rooted-some x r in
       and-both (madeOf isText 1 1024 x) (startsWith (bytes "/") x)
@@ -198,32 +214,19 @@ module _ (new old : Listing) (N : Proper new) (O : Proper old) where
       (filler ts) (filler-bytes isText text-q digit-text ts) x F)) r
 
   -- a trial method is a method
-  filler-method-good : isMethodName (fillerMethodOf new old) ≡ true
-  unfolding isMethodName fillerMethodOf
-  filler-method-good =
-      let ms : List Text = new .methods ++ old .methods in
-      let s = method-short ms in
-      made isToken 1 24 (fillerMethod ms) (s .0) (omega arith) (method-bytes isToken token-Q digit-token ms)
-
-  pub method-good : (x : Text) → List·Memᴰ x (trialMethods new old) → isMethodName x ≡ true
+  pub method-good : (x : Text) → List·Memᴰ x (trialMethods old new) → isMethodName x ≡ true
   unfolding trialMethods
-  method-good x m = go (List·Memᴰ·append-cases (joined (new .methods) (old .methods)) m)
-    where
-      go : List·Memᴰ x (joined (new .methods) (old .methods)) ⊎ List·Memᴰ x (fillerMethodOf new old ∷ []) → isMethodName x ≡ true
-      go (inl i) =
-          each-joined (λ (t : Text). isMethodName t ≡ true) (new .methods) (old .methods) (λ t k. N .good-methods t (member-plain t (new .methods) .1 k))
-          (λ t k. O .good-methods t (member-plain t (old .methods) .1 k)) x i
-      go (inr i) = rw (List·Memᴰ·eq-of-singleton i) filler-method-good
+  method-good = tried-good (old .methods) (new .methods) (O .good-methods) (N .good-methods)
 
   -- a trial caller is not logged in, or has one role
-  pub caller-good : (c : Caller) → List·Memᴰ c (trialCallers new old) → NobodyOrOne c
+  pub caller-good : (c : Caller) → List·Memᴰ c (trialCallers old new) → NobodyOrOne c
   unfolding trialCallers trialNames
   caller-good c m = go (List·Memᴰ·cases-cons m)
     where
-      go : (c ≡ nobody) ⊎ List·Memᴰ c (map one (trialNames new old)) → NobodyOrOne c
+      go : (c ≡ nobody) ⊎ List·Memᴰ c (map one (trialNames old new)) → NobodyOrOne c
       go (inl e) = inl e
       go (inr i) =
-          let r = Memᴰ·of-map one (trialNames new old) i in
+          let r = Memᴰ·of-map one (trialNames old new) i in
           inr (
             r .0,
             sym (r .2),
@@ -232,7 +235,7 @@ module _ (new old : Listing) (N : Proper new) (O : Proper old) where
           )
 
   -- so a request of such parts is one that a call can ask
-  pub trial-good : (r : Request) → List·Memᴰ (r .path) (trialPaths new old) → List·Memᴰ (r .method) (trialMethods new old) → List·Memᴰ (r .caller) (trialCallers new old)
+  pub trial-good : (r : Request) → List·Memᴰ (r .path) (trialPaths old new) → List·Memᴰ (r .method) (trialMethods old new) → List·Memᴰ (r .caller) (trialCallers old new)
       → WellFormed r
   trial-good r p m c =
       let k = caller-called (r .caller) (caller-good (r .caller) c) in

@@ -8,7 +8,7 @@ use Rattle.text.specs.Texts.{Text, first}
 use Rattle.listings.specs.Listings.{Listing, patternsOf}
 use Rattle.listings.specs.Propers.{Proper}
 use Rattle.text.proofs.Truths.{never, not-so, and-left, and-right, and-both}
-use Rattle.listings.proofs.Plainly.{member-plain}
+use Rattle.names.proofs.Plainly.{member-plain}
 use Rattle.decisions.specs.Matching.{best}
 use Rattle.decisions.specs.Requests.{Caller, request}
 use Rattle.decisions.specs.Combining.{Access, hasRole}
@@ -64,37 +64,37 @@ first-front {A} test xs ys h = first-append test xs ys ∙ go (first test xs) re
     go (some x) e = refl
 
 -- ---- names that only old has are never shown: who holds one and is granted anew has one before him who stands in
-fresh-too : (a b : Access) (c x : Caller) (ns : List Text) → StandsFor a ns c x → isFresh a b c ≡ true → isFresh a b x ≡ true
+fresh-too : (a b : Access) (c x : Caller) (ns : List Text) → StandsFor a ns c x → isFresh b a c ≡ true → isFresh b a x ≡ true
 unfolding isFresh
 fresh-too a b c x ns S h =
     and-both (may a x) (not (may b x)) (S .may-too)
     (ap not (denied-too b c x (S .below) (not-true (may b c) (and-right (may a c) (not (may b c)) h))))
 
-names-of-new : (a b : Access) (ns os : List Text) → ((n : Text) → hasRole a n ≡ true → List·Memᴰ n ns) → first (isFresh a b) (callersWith (ns ++ os)) ≡ first (isFresh a b) (callersWith ns)
+names-of-new : (a b : Access) (ns os : List Text) → ((n : Text) → hasRole a n ≡ true → List·Memᴰ n ns) → first (isFresh b a) (callersWith (ns ++ os)) ≡ first (isFresh b a) (callersWith ns)
 unfolding isFresh
 names-of-new a b ns os known =
-    ap (λ (cs : List Caller). first (isFresh a b) (callersWith [] ++ cs)) (map-append one ns os)
-    ∙ first-front (isFresh a b) (callersWith ns) (map one os) (λ e. none-first (isFresh a b) (map one os) (λ c i. not-so (isFresh a b c) (λ h. found e c h)))
+    ap (λ (cs : List Caller). first (isFresh b a) (callersWith [] ++ cs)) (map-append one ns os)
+    ∙ first-front (isFresh b a) (callersWith ns) (map one os) (λ e. none-first (isFresh b a) (map one os) (λ c i. not-so (isFresh b a c) (λ h. found e c h)))
   where
-    found : first (isFresh a b) (callersWith ns) ≡ none → (c : Caller) → isFresh a b c ≡ true → ⊥
+    found : first (isFresh b a) (callersWith ns) ≡ none → (c : Caller) → isFresh b a c ≡ true → ⊥
     found e c h =
         let S = caller-for a ns known c (and-left (may a c) _ h) in
-        never (isFresh a b (S .0)) (fresh-too a b c (S .0) ns (S .1) h) (first-none (isFresh a b) (callersWith ns) e (S .0) (S .1 .listed))
+        never (isFresh b a (S .0)) (fresh-too a b c (S .0) ns (S .1) h) (first-none (isFresh b a) (callersWith ns) e (S .0) (S .1 .listed))
 
 -- ---- the verdict
-module _ (new old : Listing) (N : Proper new) where
-  at-shown : (p m : Text) → first (widens new old) (atMethod (trialCallers new old) p m) ≡ shownAt new old p m
+module _ (old new : Listing) (N : Proper new) where
+  at-shown : (p m : Text) → first (widens old new) (atMethod (trialCallers old new) p m) ≡ shownAt old new p m
   unfolding widens decide isFresh shownAt trialCallers trialNames joined combinedFor
   at-shown p m =
-      first-map (widens new old) (request p m) (trialCallers new old)
+      first-map (widens old new) (request p m) (trialCallers old new)
       ∙ ap (Option·map (request p m)) (names-of-new (combinedFor new p m) (combinedFor old p m) (new .roles) (further (new .roles) (old .roles)) named)
     where
       named : (n : Text) → hasRole (combinedFor new p m) n ≡ true → List·Memᴰ n (new .roles)
       named n h = member-plain n (new .roles) .0 (role-named new N m n (best (patternsOf new) p) h)
 
-  pub path-shown : (p : Text) → first (widens new old) (atPath (trialCallers new old) (trialMethods new old) p) ≡ firstSome (λ (m : Text). shownAt new old p m) (trialMethods new old)
-  path-shown p = first-flat (widens new old) (atMethod (trialCallers new old) p) (trialMethods new old) ∙ some-alike _ _ (at-shown p) (trialMethods new old)
+  pub path-shown : (p : Text) → first (widens old new) (atPath (trialCallers old new) (trialMethods old new) p) ≡ firstSome (λ (m : Text). shownAt old new p m) (trialMethods old new)
+  path-shown p = first-flat (widens old new) (atMethod (trialCallers old new) p) (trialMethods old new) ∙ some-alike _ _ (at-shown p) (trialMethods old new)
 
-  pub verdict-shown : verdict new old ≡ shown new old
+  pub verdict-shown : verdict old new ≡ shown old new
   unfolding verdict trials shown
-  verdict-shown = first-flat (widens new old) (atPath (trialCallers new old) (trialMethods new old)) (trialPaths new old) ∙ some-alike _ _ path-shown (trialPaths new old)
+  verdict-shown = first-flat (widens old new) (atPath (trialCallers old new) (trialMethods old new)) (trialPaths old new) ∙ some-alike _ _ path-shown (trialPaths old new)

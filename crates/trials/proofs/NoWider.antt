@@ -5,7 +5,7 @@ use mathlib.Core.Bool.{true}
 use mathlib.Core.Option.{Option, none, some}
 use Rattle.text.specs.Texts.{Text, bytes, startsWith}
 use Rattle.text.specs.Bytes.{isText}
-use Rattle.listings.specs.Names.{madeOf}
+use Rattle.names.specs.Names.{madeOf}
 use Rattle.listings.specs.Listings.{Listing}
 use Rattle.listings.specs.Propers.{Proper}
 use Rattle.text.proofs.Truths.{never, and-right}
@@ -23,39 +23,39 @@ path-rooted : (p : Text) → isPath p ≡ true → rooted p
 unfolding isPath
 path-rooted p h = and-right (madeOf isText 1 1024 p) (startsWith (bytes "/") p) h
 
-module _ (new old : Listing) (N : Proper new) (O : Proper old) where
-  trial-shown : (r : Request) → FirstIn (widens new old) (trials new old) r → Shown new old r
+module _ (old new : Listing) (O : Proper old) (N : Proper new) where
+  trial-shown : (r : Request) → FirstIn (widens old new) (trials old new) r → Shown old new r
   trial-shown r F =
-      let T = trial-parts new old r (first-listed (widens new old) (trials new old) r F) in
+      let T = trial-parts old new r (first-listed (widens old new) (trials old new) r F) in
       record {
-        formed = trial-good new old N O r (T .path-in) (T .method-in) (T .caller-in);
-        caller = caller-good new old N O (r .caller) (T .caller-in);
-        widening = widens-plain new old r .0 (F .passes);
+        formed = trial-good old new O N r (T .path-in) (T .method-in) (T .caller-in);
+        caller = caller-good old new O N (r .caller) (T .caller-in);
+        widening = widens-plain old new r .0 (F .passes);
         before = F .before;
         after = F .after;
         split = F .split;
-        earlier = λ q m W. never (widens new old q) (widens-plain new old q .1 W) (F .earlier q m);
+        earlier = λ q m W. never (widens old new q) (widens-plain old new q .1 W) (F .earlier q m);
       }
 
   -- what the verdict shows is well formed, granted by new, denied by old, and the first such trial
-  pub wider : Wider new old
+  pub wider : Wider old new
   unfolding verdict
-  wider r e = trial-shown r (first-some (widens new old) (trials new old) r e)
+  wider r e = trial-shown r (first-some (widens old new) (trials old new) r e)
 
   -- no request, well formed or not but for its path's first byte
-  pub none-widens : verdict new old ≡ none → (r : Request) → rooted (r .path) → Widening new old r → ⊥
+  pub none-widens : verdict old new ≡ none → (r : Request) → rooted (r .path) → Widening old new r → ⊥
   unfolding verdict
   none-widens e r s W =
-      let x = trial-for new old N O r s W in
-      never (widens new old (x .0)) (widens-plain new old (x .0) .1 (x .2)) (first-none (widens new old) (trials new old) e (x .0) (x .1))
+      let x = trial-for old new O N r s W in
+      never (widens old new (x .0)) (widens-plain old new (x .0) .1 (x .2)) (first-none (widens old new) (trials old new) e (x .0) (x .1))
 
-  widens-none : ((r : Request) → WellFormed r → Widening new old r → ⊥) → verdict new old ≡ none
-  widens-none h = go (verdict new old) refl
+  widens-none : ((r : Request) → WellFormed r → Widening old new r → ⊥) → verdict old new ≡ none
+  widens-none h = go (verdict old new) refl
     where
-      go : (o : Option Request) → verdict new old ≡ o → o ≡ none
+      go : (o : Option Request) → verdict old new ≡ o → o ≡ none
       go none e = refl
       go (some r) e = let S = wider r e in absurd (h r (S .formed) (S .widening))
 
   -- the verdict is none exactly where no request at all is granted by new and denied by old
-  pub no-wider : NoWider new old
+  pub no-wider : NoWider old new
   no-wider = (λ e r F. none-widens e r (path-rooted (r .path) (F .path)), widens-none)

@@ -8,7 +8,7 @@ use native.Mathlib.Numerals.{add-one}
 use native.Mathlib.Omega.{arith}
 use lib.ListN.{length, drop, getD}
 use Rattle.text.specs.Texts.{Text, member}
-use Rattle.listings.specs.Patterns.{kindOf}
+use Rattle.names.specs.Patterns.{kindOf}
 use Rattle.trials.specs.Trials.{below, dotted, extensionIn, extensions, pathsOfKind, pathsFrom, further, joined}
 use Rattle.trials.specs.Loops.{orElse, firstSome}
 

@@ -9,7 +9,7 @@ use Rattle.text.specs.Texts.{Text, member}
 use Rattle.listings.specs.Listings.{Listing, patternsOf}
 use Rattle.listings.specs.Propers.{Proper}
 use Rattle.text.proofs.Truths.{never, not-so, and-left, and-right, and-both}
-use Rattle.listings.proofs.Plainly.{member-plain}
+use Rattle.names.proofs.Plainly.{member-plain}
 use Rattle.listings.proofs.Lines.{flat-in, flat-of}
 use Rattle.decisions.specs.Matching.{best}
 use Rattle.decisions.specs.Requests.{Caller, nobody, holder, Extends, Request, request}
@@ -19,18 +19,18 @@ use Rattle.decisions.proofs.Anys.{any-plain}
 use Rattle.decisions.proofs.Takings.{role-named}
 use Rattle.decisions.proofs.Unnamed.{unnamed-alike}
 use Rattle.decisions.proofs.Promises.{roles-grant, access-keeps}
-use Rattle.trials.specs.Fillers.{fillerOf, fillerMethodOf}
-use Rattle.trials.specs.Trials.{joined, trialPaths, trialMethods, one, callersWith, trialNames, trialCallers, atMethod, atPath, trials}
+use Rattle.trials.specs.Fillers.{fillerMethod, fillerOf}
+use Rattle.trials.specs.Trials.{joined, trialPaths, methodsTried, trialMethods, one, callersWith, trialNames, trialCallers, atMethod, atPath, trials}
 use Rattle.trials.specs.Verdicts.{Widening, widens}
 use Rattle.trials.proofs.StandIns.{rooted, trial-path}
 use Rattle.trials.proofs.Alikes.{best-alike}
 use Rattle.trials.proofs.Choices.{joined-first, joined-second}
-use Rattle.trials.proofs.Bounds.{filler-of-fills, method-of-unnamed}
+use Rattle.trials.proofs.Bounds.{filler-of-fills, unnamed-in-both}
 
 -- ---- what is found to widen is what widens
-pub widens-plain : (new old : Listing) (r : Request) → (widens new old r ≡ true) ↔ Widening new old r
+pub widens-plain : (old new : Listing) (r : Request) → (widens old new r ≡ true) ↔ Widening old new r
 unfolding widens
-widens-plain new old r = (
+widens-plain old new r = (
   λ w. record {
     granted = and-left (isGrant (decide new r)) (not (isGrant (decide old r))) w;
     denied = not-true (isGrant (decide old r)) (and-right (isGrant (decide new r)) (not (isGrant (decide old r))) w);
@@ -72,40 +72,40 @@ denied-too a c x s h = not-so (may a x) (λ g. never (may a c) (access-keeps a x
 
 -- ---- the trials are the requests whose parts are
 -- the parts of a trial
-pub record Trial (new old : Listing) (r : Request) : Type 0 where
-  pub path-in : List·Memᴰ (r .path) (trialPaths new old)
-  pub method-in : List·Memᴰ (r .method) (trialMethods new old)
-  pub caller-in : List·Memᴰ (r .caller) (trialCallers new old)
+pub record Trial (old new : Listing) (r : Request) : Type 0 where
+  pub path-in : List·Memᴰ (r .path) (trialPaths old new)
+  pub method-in : List·Memᴰ (r .method) (trialMethods old new)
+  pub caller-in : List·Memᴰ (r .caller) (trialCallers old new)
 
-module _ (new old : Listing) (r : Request) where
+module _ (old new : Listing) (r : Request) where
   abbrev Cs : List Caller
-  Cs = trialCallers new old
+  Cs = trialCallers old new
 
   abbrev Ms : List Text
-  Ms = trialMethods new old
+  Ms = trialMethods old new
 
-  pub trial-parts : List·Memᴰ r (trials new old) → Trial new old r
+  pub trial-parts : List·Memᴰ r (trials old new) → Trial old new r
   unfolding trials
   trial-parts i =
-      let p = flat-of (atPath Cs Ms) (trialPaths new old) r i in
+      let p = flat-of (atPath Cs Ms) (trialPaths old new) r i in
       let m = flat-of (atMethod Cs (p .0)) Ms r (p .2) in
       let c = Memᴰ·of-map (request (p .0) (m .0)) Cs (m .2) in
       rw (← c .2) (record { path-in = p .1; method-in = m .1; caller-in = c .1 })
 
-  pub parts-trial : Trial new old r → List·Memᴰ r (trials new old)
+  pub parts-trial : Trial old new r → List·Memᴰ r (trials old new)
   unfolding trials
   parts-trial T =
       flat-in (atPath Cs Ms) r (T .path-in)
       (flat-in (atMethod Cs (r .path)) r (T .method-in) (Memᴰ·map (request (r .path) (r .method)) (T .caller-in)))
 
 -- ---- every request that widens has a trial that does
-module _ (new old : Listing) (N : Proper new) (O : Proper old) where
+module _ (old new : Listing) (O : Proper old) (N : Proper new) where
   -- a trial path with the same best match in both listings
   path-for : (path : Text) → rooted path
-      → (x : Text) × List·Memᴰ x (trialPaths new old) × (best (patternsOf new) x ≡ best (patternsOf new) path) × (best (patternsOf old) x ≡ best (patternsOf old) path)
+      → (x : Text) × List·Memᴰ x (trialPaths old new) × (best (patternsOf new) x ≡ best (patternsOf new) path) × (best (patternsOf old) x ≡ best (patternsOf old) path)
   unfolding trialPaths
   path-for path s =
-      let r = trial-path (fillerOf new old) (patternsOf new ++ patternsOf old) (filler-of-fills new old N O) path s in (
+      let r = trial-path (fillerOf old new) (patternsOf new ++ patternsOf old) (filler-of-fills old new O N) path s in (
         r .0,
         r .1,
         best-alike (patternsOf new) (r .0) path (λ t m. r .2 t (Memᴰ·append-left (patternsOf old) m)),
@@ -117,12 +117,15 @@ module _ (new old : Listing) (N : Proper new) (O : Proper old) where
   Like l x q = (b : Option Text) → combinedAt l b x ≡ combinedAt l b q
 
   -- the method itself, or the filler method
-  method-for : (q : Text) → (x : Text) × List·Memᴰ x (trialMethods new old) × Like new x q × Like old x q
-  unfolding trialMethods
+  method-for : (q : Text) → (x : Text) × List·Memᴰ x (trialMethods old new) × Like new x q × Like old x q
+  unfolding trialMethods methodsTried
   method-for q = go (member q (new .methods)) (member q (old .methods)) refl refl
     where
       f : Text
-      f = fillerMethodOf new old
+      f = fillerMethod (new .methods ++ old .methods)
+
+      unnamed : (member f (new .methods) ≡ false) × (member f (old .methods) ≡ false)
+      unnamed = unnamed-in-both (old .methods) (new .methods) (O .few-methods) (N .few-methods)
 
       itself : List·Memᴰ q (joined (new .methods) (old .methods)) → (x : Text) × List·Memᴰ x (joined (new .methods) (old .methods) ++ f ∷ []) × Like new x q × Like old x q
       itself i = (q, Memᴰ·append-left (f ∷ []) i, λ b. refl, λ b. refl)
@@ -134,15 +137,15 @@ module _ (new old : Listing) (N : Proper new) (O : Proper old) where
       go false false d e = (
         f,
         Memᴰ·append-right (joined (new .methods) (old .methods)) (List·Memᴰ·head refl),
-        unnamed-alike f q new N (method-of-unnamed new old N O .0) d,
-        unnamed-alike f q old O (method-of-unnamed new old N O .1) e,
+        unnamed-alike f q new N (unnamed .0) d,
+        unnamed-alike f q old O (unnamed .1) e,
       )
 
   -- a trial path and a trial method to which both listings come as to the request's
   abbrev BothLike : Text → Text → Text → Text → Type 0
   BothLike x y path m = (combinedFor new x y ≡ combinedFor new path m) × (combinedFor old x y ≡ combinedFor old path m)
 
-  stand-in-for : (path m : Text) → rooted path → (x : Text) × (y : Text) × List·Memᴰ x (trialPaths new old) × List·Memᴰ y (trialMethods new old) × BothLike x y path m
+  stand-in-for : (path m : Text) → rooted path → (x : Text) × (y : Text) × List·Memᴰ x (trialPaths old new) × List·Memᴰ y (trialMethods old new) × BothLike x y path m
   unfolding combinedFor
   stand-in-for path m s =
       let P = path-for path s in
@@ -151,7 +154,7 @@ module _ (new old : Listing) (N : Proper new) (O : Proper old) where
       = λ l e h. ap (λ (b : Option Text). combinedAt l b (M .0)) e ∙ h (best (patternsOf l) path) in
       (P .0, M .0, P .1, M .1, (at new (P .2) (M .2), at old (P .3) (M .3)))
 
-  pub trial-for : (r : Request) → rooted (r .path) → Widening new old r → (x : Request) × List·Memᴰ x (trials new old) × Widening new old x
+  pub trial-for : (r : Request) → rooted (r .path) → Widening old new r → (x : Request) × List·Memᴰ x (trials old new) × Widening old new x
   unfolding decide combinedFor trialCallers trialNames
   trial-for r s W =
       let P = stand-in-for (r .path) (r .method) s in
@@ -160,11 +163,11 @@ module _ (new old : Listing) (N : Proper new) (O : Proper old) where
       let granted : may a (r .caller) ≡ true = rw (P .4 .0) (W .granted) in
       let denied : may b (r .caller) ≡ false = rw (P .4 .1) (W .denied) in
       let C =
-      caller-for a (trialNames new old)
+      caller-for a (trialNames old new)
       (λ n h. joined-first n (new .roles) (old .roles) (member-plain n (new .roles) .0 (role-named new N (P .1) n (best (patternsOf new) (P .0)) h)))
       (r .caller) granted in
       let x : Request = request (P .0) (P .1) (C .0) in (
         x,
-        parts-trial new old x (record { path-in = P .2; method-in = P .3; caller-in = C .1 .listed }),
+        parts-trial old new x (record { path-in = P .2; method-in = P .3; caller-in = C .1 .listed }),
         record { granted = C .1 .may-too; denied = denied-too b (r .caller) (C .0) (C .1 .below) denied },
       )

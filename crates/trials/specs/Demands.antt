@@ -7,7 +7,7 @@ use mathlib.Core.Option.{none, some}
 use Prim.Native.Nat.{_≤_}
 use lib.ListN.{length}
 use Rattle.text.specs.Texts.{Text}
-use Rattle.listings.specs.Names.{isRoleName}
+use Rattle.names.specs.Names.{isRoleName}
 use Rattle.listings.specs.Listings.{Listing}
 use Rattle.decisions.specs.Requests.{Caller, nobody, Request}
 use Rattle.trials.specs.Trials.{one, trials}
@@ -16,32 +16,32 @@ use Rattle.trials.specs.Answers.{answerOf}
 
 -- no trial widens exactly when no request at all is granted by new and denied by old
 abbrev pub NoWider : Listing → Listing → Type 0
-NoWider new old = (verdict new old ≡ none) ↔ ((r : Request) → WellFormed r → Widening new old r → ⊥)
+NoWider old new = (verdict old new ≡ none) ↔ ((r : Request) → WellFormed r → Widening old new r → ⊥)
 
 -- not logged in, or logged in with one role
 abbrev pub NobodyOrOne : Caller → Type 0
 NobodyOrOne c = (c ≡ nobody) ⊎ ((n : Text) × (c ≡ one n) × (isRoleName n ≡ true))
 
 -- what the verdict shows, if anything
-pub record Shown (new old : Listing) (r : Request) : Type 0 where
+pub record Shown (old new : Listing) (r : Request) : Type 0 where
   -- a request that a call can ask, of one who is not logged in or has one role
   pub formed : WellFormed r
   pub caller : NobodyOrOne (r .caller)
   -- granted by new, denied by old
-  pub widening : Widening new old r
+  pub widening : Widening old new r
   -- and the first such trial
   pub before : List Request
   pub after : List Request
-  pub split : trials new old ≡ before ++ r ∷ after
-  pub earlier : (q : Request) → List·Memᴰ q before → Widening new old q → ⊥
+  pub split : trials old new ≡ before ++ r ∷ after
+  pub earlier : (q : Request) → List·Memᴰ q before → Widening old new q → ⊥
 
 abbrev pub Wider : Listing → Listing → Type 0
-Wider new old = (r : Request) → verdict new old ≡ some r → Shown new old r
+Wider old new = (r : Request) → verdict old new ≡ some r → Shown old new r
 
 -- "The answer goes to a lent buffer" of at least 1,024 bytes
 abbrev pub AnswerFits : Listing → Listing → Type 0
-AnswerFits new old = length (answerOf (verdict new old)) ≤ 1024
+AnswerFits old new = length (answerOf (verdict old new)) ≤ 1024
 
 -- equal answers, equal verdicts
 abbrev pub AnswerTells : Listing → Listing → Listing → Listing → Type 0
-AnswerTells new old new′ old′ = answerOf (verdict new old) ≡ answerOf (verdict new′ old′) → verdict new old ≡ verdict new′ old′
+AnswerTells old new old′ new′ = answerOf (verdict old new) ≡ answerOf (verdict old′ new′) → verdict old new ≡ verdict old′ new′

@@ -23,13 +23,13 @@ firstSome f (x ∷ xs) = elim (f x) [ none ↦ firstSome f xs | some b ↦ some 
 -- the caller may by new, and may not by old
 unfoldable pub isFresh : Access → Access → Caller → Bool
 unfolding answerTo
-isFresh new old c = may new c && not (may old c)
+isFresh old new c = may new c && not (may old c)
 
 -- for one path and one method; names that only old has are not looked at
 unfoldable pub shownAt : Listing → Listing → Text → Text → Option Request
 unfolding first isFresh combinedFor
-shownAt new old p m = Option·map (request p m) (first (isFresh (combinedFor new p m) (combinedFor old p m)) (callersWith (new .roles)))
+shownAt old new p m = Option·map (request p m) (first (isFresh (combinedFor old p m) (combinedFor new p m)) (callersWith (new .roles)))
 
 unfoldable pub shown : Listing → Listing → Option Request
 unfolding firstSome shownAt trialPaths trialMethods
-shown new old = firstSome (λ (p : Text). firstSome (λ (m : Text). shownAt new old p m) (trialMethods new old)) (trialPaths new old)
+shown old new = firstSome (λ (p : Text). firstSome (λ (m : Text). shownAt old new p m) (trialMethods old new)) (trialPaths old new)

@@ -2,10 +2,10 @@
 use mathlib.Core.Bool.{cond}
 use mathlib.Core.List.{List, [], _∷_, _++_, map, flatMap}
 use Rattle.text.specs.Texts.{Text, slash, dot, member}
-use Rattle.listings.specs.Patterns.{PatternKind, exact, prefix, extension, default, unpermitted, kindOf}
+use Rattle.names.specs.Patterns.{PatternKind, exact, prefix, extension, default, unpermitted, kindOf}
 use Rattle.listings.specs.Listings.{Listing, patternsOf}
 use Rattle.decisions.specs.Requests.{Caller, nobody, holder, Request, request}
-use Rattle.trials.specs.Fillers.{fillerOf, fillerMethodOf}
+use Rattle.trials.specs.Fillers.{fillerMethod, fillerOf}
 
 -- ---- "Trial paths, taking the `pattern` lines of the new listing and then the old in order"
 -- p`/`filler
@@ -52,7 +52,7 @@ pathsFor filler ts = pathsFrom filler (extensions ts) ts
 
 unfoldable pub trialPaths : Listing → Listing → List Text
 unfolding pathsFor fillerOf patternsOf
-trialPaths new old = pathsFor (fillerOf new old) (patternsOf new ++ patternsOf old)
+trialPaths old new = pathsFor (fillerOf old new) (patternsOf new ++ patternsOf old)
 
 -- ---- "Trial methods: those of new by first appearance, then further ones of old, then the filler method."
 -- those of the second list that are none of the first
@@ -64,11 +64,16 @@ further us (t ∷ ts) = cond (member t us) (further us ts) (t ∷ further us ts)
 -- those of new, then further ones of old; a listing has each of its methods and roles once, by first appearance
 unfoldable pub joined : List Text → List Text → List Text
 unfolding further
-joined new old = new ++ further new old
+joined first more = first ++ further first more
+
+-- where old has the methods os, and new the methods ns
+unfoldable pub methodsTried : List Text → List Text → List Text
+unfolding joined fillerMethod
+methodsTried os ns = joined ns os ++ fillerMethod (ns ++ os) ∷ []
 
 unfoldable pub trialMethods : Listing → Listing → List Text
-unfolding joined fillerMethodOf
-trialMethods new old = joined (new .methods) (old .methods) ++ fillerMethodOf new old ∷ []
+unfolding methodsTried
+trialMethods old new = methodsTried (old .methods) (new .methods)
 
 -- ---- "Trial callers: not logged in; then logged in with one role, over names by first appearance in new .., then further ones of old."
 abbrev pub one : Text → Caller
@@ -76,14 +81,14 @@ one n = holder (n ∷ [])
 
 unfoldable pub trialNames : Listing → Listing → List Text
 unfolding joined
-trialNames new old = joined (new .roles) (old .roles)
+trialNames old new = joined (new .roles) (old .roles)
 
 abbrev pub callersWith : List Text → List Caller
 callersWith ns = nobody ∷ map one ns
 
 unfoldable pub trialCallers : Listing → Listing → List Caller
 unfolding trialNames
-trialCallers new old = callersWith (trialNames new old)
+trialCallers old new = callersWith (trialNames old new)
 
 -- ---- "Paths vary slowest, callers fastest."
 abbrev pub atMethod : List Caller → Text → Text → List Request
@@ -94,4 +99,4 @@ atPath cs ms p = flatMap (atMethod cs p) ms
 
 unfoldable pub trials : Listing → Listing → List Request
 unfolding flatMap trialPaths trialMethods trialCallers
-trials new old = flatMap (atPath (trialCallers new old) (trialMethods new old)) (trialPaths new old)
+trials old new = flatMap (atPath (trialCallers old new) (trialMethods old new)) (trialPaths old new)

@@ -19,16 +19,16 @@ pub record WellFormed (r : Request) : Type 0 where
   pub called : callerOf login names ≡ some (r .caller)
 
 -- ---- the new listing grants it, and the old one denies it
-pub record Widening (new old : Listing) (r : Request) : Type 0 where
+pub record Widening (old new : Listing) (r : Request) : Type 0 where
   pub granted : isGrant (decide new r) ≡ true
   pub denied : isGrant (decide old r) ≡ false
 
 -- the same, found
 unfoldable pub widens : Listing → Listing → Request → Bool
 unfolding decide
-widens new old r = isGrant (decide new r) && not (isGrant (decide old r))
+widens old new r = isGrant (decide new r) && not (isGrant (decide old r))
 
 -- ---- the first trial that widens
 unfoldable pub verdict : Listing → Listing → Option Request
 unfolding first widens trials
-verdict new old = first (widens new old) (trials new old)
+verdict old new = first (widens old new) (trials old new)

@@ -11,7 +11,7 @@ use lib.Seq.{take-suc}
 use Rattle.text.specs.Texts.{Text, same, member}
 use Rattle.text.proofs.Truths.{never}
 use Rattle.text.proofs.Spans.{same-equal}
-use Rattle.listings.proofs.Plainly.{member-append}
+use Rattle.names.proofs.Plainly.{member-append}
 use Rattle.trials.specs.Loops.{orElse, firstSome}
 use Rattle.trials.proofs.Turns.{turn-found, turn-on, turn-ends}
 

@@ -29,28 +29,28 @@ caught-some m d e = absurd (let z : _≡_ {A = ℕ} 1 0 = ap mark e in omega ari
     mark (C.At m d) = 1
 
 -- ---- rows within rows
-module _ (r s n o pairs : List ℕ) (count : ℕ) (fit : PairsFit pairs count)
-    (small : (m : ℕ) → m < 32 → getD r m 0 ≤ everyone) (small′ : (m : ℕ) → m < 32 → getD s m 0 ≤ everyone)
-    (inner : RowWithin r n) (outer : RowWithin o s) where
+module _ (s r o n pairs : List ℕ) (count : ℕ) (fit : PairsFit pairs count)
+    (small : (m : ℕ) → m < 32 → getD s m 0 ≤ everyone) (small′ : (m : ℕ) → m < 32 → getD r m 0 ≤ everyone)
+    (outer : RowWithin o s) (inner : RowWithin r n) where
   -- no method has a fresh caller
-  fresh-none : (i : ℕ) → i < count → freshIn n o pairs i ≡ 0 → freshIn r s pairs i ≡ 0
+  fresh-none : (i : ℕ) → i < count → freshIn o n pairs i ≡ 0 → freshIn s r pairs i ≡ 0
   fresh-none i h e =
       let p : getD pairs i 0 < 32 = fit i h .0 in
       let q : getD pairs (64 + i) 0 < 32 = fit i h .1 in
-      nothing-within (getD r (getD pairs i 0) 0) (getD s (getD pairs (64 + i) 0) 0) (getD n (getD pairs i 0) 0) (getD o (getD pairs (64 + i) 0) 0)
-      (small (getD pairs i 0) p) (small′ (getD pairs (64 + i) 0) q) (inner (getD pairs i 0) p) (outer (getD pairs (64 + i) 0) q) e
+      nothing-within (getD r (getD pairs (64 + i) 0) 0) (getD s (getD pairs i 0) 0) (getD n (getD pairs (64 + i) 0) 0) (getD o (getD pairs i 0) 0)
+      (small′ (getD pairs (64 + i) 0) q) (small (getD pairs i 0) p) (inner (getD pairs (64 + i) 0) q) (outer (getD pairs i 0) p) e
 
   -- so nobody is caught
-  caught-none : (k i : ℕ) → k + i ≤ count → caughtFrom n o pairs k i ≡ C.Nothing → caughtFrom r s pairs k i ≡ C.Nothing
+  caught-none : (k i : ℕ) → k + i ≤ count → caughtFrom o n pairs k i ≡ C.Nothing → caughtFrom s r pairs k i ≡ C.Nothing
   unfolding caughtFrom
   caught-none zero i h e = refl
-  caught-none (suc k) i h e = go (eqb (freshIn n o pairs i) 0) refl e (caught-none k (i + 1) (omega arith))
+  caught-none (suc k) i h e = go (eqb (freshIn o n pairs i) 0) refl e (caught-none k (i + 1) (omega arith))
     where
-      go : (b : Bool) → eqb (freshIn n o pairs i) 0 ≡ b → cond b (caughtFrom n o pairs k (i + 1)) (C.At i (trailingZeros 64 (freshIn n o pairs i))) ≡ C.Nothing
-          → (caughtFrom n o pairs k (i + 1) ≡ C.Nothing → caughtFrom r s pairs k (i + 1) ≡ C.Nothing)
-          → cond (eqb (freshIn r s pairs i) 0) (caughtFrom r s pairs k (i + 1)) (C.At i (trailingZeros 64 (freshIn r s pairs i))) ≡ C.Nothing
-      go true t e ih = rw (eq-eqb (freshIn r s pairs i) 0 (fresh-none i (omega arith) (eqb-true (freshIn n o pairs i) 0 t))) (ih e)
-      go false t e ih = caught-some i (trailingZeros 64 (freshIn n o pairs i)) e
+      go : (b : Bool) → eqb (freshIn o n pairs i) 0 ≡ b → cond b (caughtFrom o n pairs k (i + 1)) (C.At i (trailingZeros 64 (freshIn o n pairs i))) ≡ C.Nothing
+          → (caughtFrom o n pairs k (i + 1) ≡ C.Nothing → caughtFrom s r pairs k (i + 1) ≡ C.Nothing)
+          → cond (eqb (freshIn s r pairs i) 0) (caughtFrom s r pairs k (i + 1)) (C.At i (trailingZeros 64 (freshIn s r pairs i))) ≡ C.Nothing
+      go true t e ih = rw (eq-eqb (freshIn s r pairs i) 0 (fresh-none i (omega arith) (eqb-true (freshIn o n pairs i) 0 t))) (ih e)
+      go false t e ih = caught-some i (trailingZeros 64 (freshIn o n pairs i)) e
 
 module _ (x : List ℕ) (c : Counts) (j : ℕ) (ro rn each any : List ℕ) (W : Walkable x c) (S : AtStem x c j ro rn) (G : Gathered x c each any) where
   -- with an extension behind the stem, new's row lies within that of all extensions, and old's has what theirs have
@@ -75,10 +75,10 @@ module _ (x : List ℕ) (c : Counts) (j : ℕ) (ro rn each any : List ℕ) (W : 
     behind-caught : (i : ℕ) → i < c .old + c .new → sortAt x i ≡ 3 → caughtBehind x c j i ≡ C.Nothing
     unfolding caughtAt caughtIn caughtTogether
     behind-caught i h s =
-        caught-none (newRow x c (staying (inNew x j) (inNew x i))) (oldRow x c (staying (inOld x j) (inOld x i)))
-        (cond (isFirmIn (inNew x j)) rn any) (cond (isFirmIn (inOld x j)) ro each) (pairsIn x) (c .methods) (W .fits)
-        (row-small (newSide x) (c .new) (lineIn (staying (inNew x j) (inNew x i)))) (row-small (oldSide x) (c .old) (lineIn (staying (inOld x j) (inOld x i))))
-        (new-within i h s) (old-within i h s) (c .methods) 0 (omega arith) e
+        caught-none (oldRow x c (staying (inOld x j) (inOld x i))) (newRow x c (staying (inNew x j) (inNew x i)))
+        (cond (isFirmIn (inOld x j)) ro each) (cond (isFirmIn (inNew x j)) rn any) (pairsIn x) (c .methods) (W .fits)
+        (row-small (oldSide x) (c .old) (lineIn (staying (inOld x j) (inOld x i)))) (row-small (newSide x) (c .new) (lineIn (staying (inNew x j) (inNew x i))))
+        (old-within i h s) (new-within i h s) (c .methods) 0 (omega arith) e
 
     -- so none shows
     behind-shown : (k i : ℕ) → k + i ≤ c .old + c .new → behindFrom x c j k i ≡ H.Nothing

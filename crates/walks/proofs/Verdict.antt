@@ -1,7 +1,7 @@
 -- The walk over the numbers finds the verdict: each stem shows what its trial paths show, and a stem that is passed over shows nothing new.
-use mathlib.Core.Path.{_≡_, refl, sym, ap, ap₂, _∙_}
+use mathlib.Core.Path.{_≡_, refl, sym, ap, ap₂, subst, _∙_}
 use mathlib.Core.Bool.{Bool, true, false, not, cond, _&&_}
-use mathlib.Core.List.{List, [], _∷_, append-nil, append-assoc, Memᴰ·append-left, Memᴰ·append-right, List·Memᴰ·append-cases}
+use mathlib.Core.List.{List, [], _∷_, _++_, append-nil, append-assoc, List·Memᴰ, Memᴰ·append-left, Memᴰ·append-right, List·Memᴰ·append-cases}
 use mathlib.Core.Logic.{⊎-elim}
 use mathlib.Core.Option.{Option, none, some}
 use Prim.Native.Nat.{ℕ, zero, suc, _+_, _<_}
@@ -12,23 +12,25 @@ use lib.Dec.{eqb}
 use borrow.Author.Tests.{lt-ltb, le-ltb}
 use Rattle.text.specs.Texts.{Text, bytes, slash, dot, member, endsWith}
 use Rattle.text.specs.Bytes.{isText}
-use Rattle.listings.specs.Names.{madeOf, isPattern}
-use Rattle.listings.specs.Patterns.{PatternKind, exact, prefix, extension, default, unpermitted, kindOf, isPermitted}
+use Rattle.names.specs.Names.{madeOf, isPattern}
+use Rattle.names.specs.Patterns.{PatternKind, exact, prefix, extension, default, unpermitted, kindOf, isPermitted}
 use Rattle.listings.specs.Listings.{Listing, patternsOf}
 use Rattle.text.proofs.Truths.{never, and-right}
+use Rattle.reading.specs.Views.{View, texts, viewOf}
+use Rattle.reading.proofs.Viewings.{texts-of}
 use Rattle.listings.specs.Propers.{Proper}
 use Rattle.decisions.specs.Matching.{isUnder}
 use Rattle.decisions.specs.Requests.{Request, request}
-use Rattle.deciding.specs.Strengths.{leading}
-use Rattle.deciding.proofs.Strengths.{at-listed}
-use Rattle.trials.specs.Fillers.{fillerOf, Filler}
-use Rattle.trials.specs.Trials.{below, dotted, extensionIn, extensions, pathsOfKind, pathsFor, trialPaths, trialMethods}
+use Rattle.matching.specs.Strengths.{leading}
+use Rattle.matching.proofs.Strengths.{at-listed}
+use Rattle.trials.specs.Fillers.{filler as fillerIn, fillerOf, Filler}
+use Rattle.trials.specs.Trials.{below, dotted, extensionIn, extensions, pathsOfKind, pathsFor, trialPaths, methodsTried, trialMethods}
 use Rattle.trials.specs.Loops.{orElse, firstSome, shown}
 use Rattle.trials.specs.Verdicts.{verdict}
 use Rattle.trials.proofs.Bounds.{filler-of-fills}
 use Rattle.trials.proofs.Loops.{verdict-shown}
 use Rattle.trials.proofs.Turns.{some-none, some-one, paths-by-lines, paths-below, extensions-by-lines}
-use Rattle.grants.specs.Sides.{callerAt, placeOf, Ready}
+use Rattle.grants.specs.Sides.{callerAt, placeIn, placeOf, Ready}
 use Rattle.grants.specs.Catches.{shownOn, caughtIn, caughtOn}
 use Rattle.grants.specs.Scratch.{oldSide, newSide, pairsIn, inOld, inNew, sortAt, placed, lineIn, staying, sortOf, sorted, stemPlace, stemPath, textsOf, StemIn, Numbered}
 use Rattle.grants.specs.declared.scratch.Counts.{Counts}
@@ -48,14 +50,10 @@ pattern-permitted t h =
     and-right (not (endsWith (bytes " ") t)) (isPermitted (kindOf t)) (and-right (madeOf isText 0 255 t) (not (endsWith (bytes " ") t) && isPermitted (kindOf t)) h)
 
 -- ---- the walk as the first answer of places, whatever the numbers are
-module _ (old new : Listing) (x : List ℕ) (c : Counts) where
+module _ (old new : View) (x : List ℕ) (c : Counts) where
   -- who is caught on a path, as a hit there
   abbrev hitAt : ℕ → ℕ → Caught → Hit
   hitAt j e y = elim y [ C.Nothing ↦ H.Nothing | C.At m d ↦ H.At j e m d ]
-
-  hit-shown : (j e : ℕ) (path : Text) → hitPath (fillerOf new old) (textsOf old new) j e ≡ path → (y : Caught) → hitShown old new (hitAt j e y) ≡ caughtOn new old path y
-  hit-shown j e path q C.Nothing = refl
-  hit-shown j e path q (C.At m d) = ap (λ (v : Text). some (request v (getD (trialMethods new old) m []) (callerAt (new .roles) d))) q
 
   -- the extension of stem i behind stem j
   abbrev behindHit : ℕ → ℕ → Hit
@@ -116,37 +114,51 @@ module _ (old new : Listing) (x : List ℕ) (c : Counts) where
       go false true (C.At m d) e n = refl
       go false false y e n = absurd (never false n refl)
 
--- ---- the numbers of two listings
-module _ (old new : Listing) (O : Proper old) (N : Proper new) (x : List ℕ) (c : Counts) (Z : Numbered old new x c) where
+-- ---- the numbers of two views
+-- all lines
+pub all-lines : (old new : View) (x : List ℕ) (c : Counts) → Numbered old new x c → c .old + c .new ≡ length (textsOf old new)
+all-lines old new x c Z = omega (arith, Z .olds, Z .news, length-append (texts new) (texts old))
+
+-- ---- of two listings' views
+module _ (old new : Listing) (O : Proper old) (N : Proper new) (x : List ℕ) (c : Counts) (Z : Numbered (viewOf old) (viewOf new) x c) where
+  -- the listings' views
+  abbrev ov : View
+  ov = viewOf old
+
+  abbrev nv : View
+  nv = viewOf new
+
   abbrev ts : List Text
-  ts = textsOf old new
+  ts = textsOf ov nv
 
   abbrev filler : Text
-  filler = fillerOf new old
+  filler = fillerIn ts
 
   abbrev es : List Text
   es = extensions ts
 
+  -- which have the listings' texts
+  texts-listed : ts ≡ patternsOf new ++ patternsOf old
+  texts-listed = ap₂ (λ (us vs : List Text). us ++ vs) (texts-of new) (texts-of old)
+
   fills : Filler filler ts
-  fills = filler-of-fills new old N O
+  unfolding fillerOf
+  fills = subst (λ (us : List Text). Filler (fillerIn us) us) (sym texts-listed) (filler-of-fills old new O N)
 
-  fills-new : Filler filler (patternsOf new)
-  fills-new = record { no-slash = fills .no-slash; no-dot = fills .no-dot; fresh = λ t m. fills .fresh t (Memᴰ·append-left (patternsOf old) m) }
+  fills-new : Filler filler (texts nv)
+  fills-new = record { no-slash = fills .no-slash; no-dot = fills .no-dot; fresh = λ t m. fills .fresh t (Memᴰ·append-left (texts ov) m) }
 
-  fills-old : Filler filler (patternsOf old)
-  fills-old = record { no-slash = fills .no-slash; no-dot = fills .no-dot; fresh = λ t m. fills .fresh t (Memᴰ·append-right (patternsOf new) m) }
+  fills-old : Filler filler (texts ov)
+  fills-old = record { no-slash = fills .no-slash; no-dot = fills .no-dot; fresh = λ t m. fills .fresh t (Memᴰ·append-right (texts nv) m) }
 
-  ready : Ready new old (newSide x) (oldSide x) (pairsIn x) (c .methods)
-  ready = record { new-side = Z .new-side; old-side = Z .old-side; methods = Z .methods }
-
-  -- all lines
-  pub all-lines : c .old + c .new ≡ length ts
-  all-lines = omega (arith, Z .olds, Z .news, length-append (patternsOf new) (patternsOf old))
+  ready : Ready ov nv (oldSide x) (newSide x) (pairsIn x) (c .methods)
+  ready = record { old-side = Z .old-side; new-side = Z .new-side; methods = Z .methods }
 
   permitted : (j : ℕ) → j < length ts → isPermitted (kindOf (getD ts j [])) ≡ true
   permitted j h =
       pattern-permitted (getD ts j [])
-      (⊎-elim (N .good-patterns (getD ts j [])) (O .good-patterns (getD ts j [])) (List·Memᴰ·append-cases (patternsOf new) (at-listed ts j h)))
+      (⊎-elim (N .good-patterns (getD ts j [])) (O .good-patterns (getD ts j []))
+      (List·Memᴰ·append-cases (patternsOf new) (subst (List·Memᴰ (getD ts j [])) texts-listed (at-listed ts j h))))
 
   -- the kind of a stem
   kind-here : (j : ℕ) → j < length ts → kindAt ts j ≡ kindOf (getD ts j [])
@@ -165,123 +177,133 @@ module _ (old new : Listing) (O : Proper old) (N : Proper new) (x : List ℕ) (c
   sort-here j h m = Z .sorts j h ∙ rw m
 
   -- ---- one path
-  caught-shown : (path : Text) (u v : ℕ) → u ≡ placed (leading (patternsOf old) path) → v ≡ placed (leading (patternsOf new) path) → caughtOn new old path (caughtAt x c u v) ≡ shownOn new old path
+  hit-shown : (j e : ℕ) (path : Text) → hitPath filler ts j e ≡ path → (y : Caught) → hitShown ov nv (hitAt ov nv x c j e y) ≡ caughtOn old new path y
+  unfolding viewOf trialMethods
+  hit-shown j e path q C.Nothing = refl
+  hit-shown j e path q (C.At m d) = ap (λ (v : Text). some (request v (getD (methodsTried (old .methods) (new .methods)) m []) (callerAt (new .roles) d))) q
+
+  caught-shown : (path : Text) (u v : ℕ) → u ≡ placed (leading (texts ov) path) → v ≡ placed (leading (texts nv) path) → caughtOn old new path (caughtAt x c u v) ≡ shownOn old new path
   unfolding caughtAt placeOf
   caught-shown path u v p q =
-      ap (caughtOn new old path) (ap₂ (λ (n o : ℕ). caughtIn (newSide x) n (oldSide x) o (pairsIn x) (c .methods) (lineIn v) (lineIn u)) (Z .news) (Z .olds))
-      ∙ caught-at new old N O (newSide x) (oldSide x) (pairsIn x) (c .methods) ready path (lineIn v) (lineIn u)
-      (ap lineIn q ∙ line-placed (leading (patternsOf new) path)) (ap lineIn p ∙ line-placed (leading (patternsOf old) path))
+      ap (caughtOn old new path) (ap₂ (λ (o n : ℕ). caughtIn (oldSide x) o (newSide x) n (pairsIn x) (c .methods) (lineIn u) (lineIn v)) (Z .olds ∙ ap length (texts-of old)) (Z .news ∙ ap length (texts-of new)))
+      ∙ caught-at old new O N (oldSide x) (newSide x) (pairsIn x) (c .methods) ready path (lineIn u) (lineIn v)
+      (ap lineIn p ∙ line-placed (leading (texts ov) path) ∙ ap (λ (us : List Text). placeIn (leading us path)) (texts-of old))
+      (ap lineIn q ∙ line-placed (leading (texts nv) path) ∙ ap (λ (us : List Text). placeIn (leading us path)) (texts-of new))
 
   -- that of stem j, of kind k
-  stem-caught : (j : ℕ) (k : PatternKind) → kindAt ts j ≡ k → StemIn old new x j k
-      → stemPlace (patternsOf old) k ≡ placed (leading (patternsOf old) (stemPath filler k)) → stemPlace (patternsOf new) k ≡ placed (leading (patternsOf new) (stemPath filler k))
-      → hitShown old new (hitAt old new x c j 0 (caughtAt x c (inOld x j) (inNew x j))) ≡ shownOn new old (stemPath filler k)
+  stem-caught : (j : ℕ) (k : PatternKind) → kindAt ts j ≡ k → StemIn ov nv x j k
+      → stemPlace (texts ov) k ≡ placed (leading (texts ov) (stemPath filler k)) → stemPlace (texts nv) k ≡ placed (leading (texts nv) (stemPath filler k))
+      → hitShown ov nv (hitAt ov nv x c j 0 (caughtAt x c (inOld x j) (inNew x j))) ≡ shownOn old new (stemPath filler k)
   stem-caught j k e S p q =
-      hit-shown old new x c j 0 (stemPath filler k) (append-nil (stemPath filler (kindAt ts j)) ∙ ap (stemPath filler) e) (caughtAt x c (inOld x j) (inNew x j))
+      hit-shown j 0 (stemPath filler k) (append-nil (stemPath filler (kindAt ts j)) ∙ ap (stemPath filler) e) (caughtAt x c (inOld x j) (inNew x j))
       ∙ caught-shown (stemPath filler k) (inOld x j) (inNew x j) (S .in-old ∙ p) (S .in-new ∙ q)
 
   -- ---- the extensions behind a prefix
-  module _ (j : ℕ) (p : Text) (kind : kindAt ts j ≡ prefix p) (root : isUnder [] p ≡ true) (S : StemIn old new x j (prefix p)) where
+  module _ (j : ℕ) (p : Text) (kind : kindAt ts j ≡ prefix p) (root : isUnder [] p ≡ true) (S : StemIn ov nv x j (prefix p)) where
     -- the request to show with the extension of a line behind it
     abbrev extended : Text → Option Request
-    extended t = firstSome (λ (e : Text). shownOn new old (dotted p filler e)) (extensionIn (kindOf t))
+    extended t = firstSome (λ (e : Text). shownOn old new (dotted p filler e)) (extensionIn (kindOf t))
 
     behind-path : (i : ℕ) (e : Text) → kindAt ts i ≡ extension e → hitPath filler ts j (i + 1) ≡ dotted p filler e
     behind-path i e k = rw (add-one i, k, kind) (append-assoc p (slash ∷ filler) (dot ∷ e))
 
-    behind-caught : (i : ℕ) (e : Text) → i < length ts → kindOf (getD ts i []) ≡ extension e → StemIn old new x i (extension e)
-        → hitShown old new (hitAt old new x c j (i + 1) (caughtBehind x c j i)) ≡ shownOn new old (dotted p filler e)
+    behind-caught : (i : ℕ) (e : Text) → i < length ts → kindOf (getD ts i []) ≡ extension e → StemIn ov nv x i (extension e)
+        → hitShown ov nv (hitAt ov nv x c j (i + 1) (caughtBehind x c j i)) ≡ shownOn old new (dotted p filler e)
     behind-caught i e h k T =
         let plain = extension-plain (getD ts i []) e k in
-        hit-shown old new x c j (i + 1) (dotted p filler e) (behind-path i e (kind-here i h ∙ k)) (caughtBehind x c j i)
+        hit-shown j (i + 1) (dotted p filler e) (behind-path i e (kind-here i h ∙ k)) (caughtBehind x c j i)
         ∙ caught-shown (dotted p filler e) (staying (inOld x j) (inOld x i)) (staying (inNew x j) (inNew x i))
-        (ap₂ staying (S .in-old) (T .in-old) ∙ behind-placed filler (patternsOf old) fills-old p e root (plain .0) (plain .1))
-        (ap₂ staying (S .in-new) (T .in-new) ∙ behind-placed filler (patternsOf new) fills-new p e root (plain .0) (plain .1))
+        (ap₂ staying (S .in-old) (T .in-old) ∙ behind-placed filler (texts ov) fills-old p e root (plain .0) (plain .1))
+        (ap₂ staying (S .in-new) (T .in-new) ∙ behind-placed filler (texts nv) fills-new p e root (plain .0) (plain .1))
 
-    no-extension : (i : ℕ) → eqb (sortAt x i) 3 ≡ false → hitShown old new (behindHit old new x c j i) ≡ none
+    no-extension : (i : ℕ) → eqb (sortAt x i) 3 ≡ false → hitShown ov nv (behindHit ov nv x c j i) ≡ none
     no-extension i e = rw e
 
-    an-extension : (i : ℕ) → sortAt x i ≡ 3 → hitShown old new (behindHit old new x c j i) ≡ hitShown old new (hitAt old new x c j (i + 1) (caughtBehind x c j i))
+    an-extension : (i : ℕ) → sortAt x i ≡ 3 → hitShown ov nv (behindHit ov nv x c j i) ≡ hitShown ov nv (hitAt ov nv x c j (i + 1) (caughtBehind x c j i))
     an-extension i e = rw e
 
-    one-behind : (i : ℕ) → i < length ts → hitShown old new (behindHit old new x c j i) ≡ anew extended ts i
+    one-behind : (i : ℕ) → i < length ts → hitShown ov nv (behindHit ov nv x c j i) ≡ anew extended ts i
     one-behind i h = go (member (getD ts i []) (take i ts)) refl
       where
-        other : (s : ℕ) → eqb s 3 ≡ false → sortAt x i ≡ s → hitShown old new (behindHit old new x c j i) ≡ none
+        other : (s : ℕ) → eqb s 3 ≡ false → sortAt x i ≡ s → hitShown ov nv (behindHit ov nv x c j i) ≡ none
         other s n e = no-extension i (ap (λ (v : ℕ). eqb v 3) e ∙ n)
 
-        kinds : (k : PatternKind) → kindOf (getD ts i []) ≡ k → sortAt x i ≡ sortOf k → StemIn old new x i k
-            → hitShown old new (behindHit old new x c j i) ≡ firstSome (λ (e : Text). shownOn new old (dotted p filler e)) (extensionIn k)
-        kinds (exact q) k s T = other 1 refl s ∙ sym (some-none (λ (e : Text). shownOn new old (dotted p filler e)))
-        kinds (prefix q) k s T = other 2 refl s ∙ sym (some-none (λ (e : Text). shownOn new old (dotted p filler e)))
-        kinds (extension e) k s T = an-extension i s ∙ behind-caught i e h k T ∙ sym (some-one (λ (e : Text). shownOn new old (dotted p filler e)) e)
-        kinds default k s T = other 1 refl s ∙ sym (some-none (λ (e : Text). shownOn new old (dotted p filler e)))
-        kinds unpermitted k s T = other 1 refl s ∙ sym (some-none (λ (e : Text). shownOn new old (dotted p filler e)))
+        kinds : (k : PatternKind) → kindOf (getD ts i []) ≡ k → sortAt x i ≡ sortOf k → StemIn ov nv x i k
+            → hitShown ov nv (behindHit ov nv x c j i) ≡ firstSome (λ (e : Text). shownOn old new (dotted p filler e)) (extensionIn k)
+        kinds (exact q) k s T = other 1 refl s ∙ sym (some-none (λ (e : Text). shownOn old new (dotted p filler e)))
+        kinds (prefix q) k s T = other 2 refl s ∙ sym (some-none (λ (e : Text). shownOn old new (dotted p filler e)))
+        kinds (extension e) k s T = an-extension i s ∙ behind-caught i e h k T ∙ sym (some-one (λ (e : Text). shownOn old new (dotted p filler e)) e)
+        kinds default k s T = other 1 refl s ∙ sym (some-none (λ (e : Text). shownOn old new (dotted p filler e)))
+        kinds unpermitted k s T = other 1 refl s ∙ sym (some-none (λ (e : Text). shownOn old new (dotted p filler e)))
 
-        go : (b : Bool) → member (getD ts i []) (take i ts) ≡ b → hitShown old new (behindHit old new x c j i) ≡ anew extended ts i
+        go : (b : Bool) → member (getD ts i []) (take i ts) ≡ b → hitShown ov nv (behindHit ov nv x c j i) ≡ anew extended ts i
         go true m = other 0 refl (sort-again i h m) ∙ sym (anew-again extended ts i m)
         go false m = kinds (kindOf (getD ts i [])) refl (sort-here i h m) (Z .stems i h m) ∙ sym (anew-here extended ts i m)
 
-    behind-shown : hitShown old new (behind x c j) ≡ firstSome (λ (e : Text). shownOn new old (dotted p filler e)) es
+    behind-shown : hitShown ov nv (behind x c j) ≡ firstSome (λ (e : Text). shownOn old new (dotted p filler e)) es
     behind-shown =
-        behind-from old new x c j (c .old + c .new) 0
-        ∙ ap (λ (k : ℕ). firstFrom (λ (n : ℕ). hitShown old new (behindHit old new x c j n)) k 0) all-lines
-        ∙ from-alike (λ (n : ℕ). hitShown old new (behindHit old new x c j n)) (anew extended ts) (length ts) 0 (λ i l. one-behind i (omega arith))
+        behind-from ov nv x c j (c .old + c .new) 0
+        ∙ ap (λ (k : ℕ). firstFrom (λ (n : ℕ). hitShown ov nv (behindHit ov nv x c j n)) k 0) (all-lines ov nv x c Z)
+        ∙ from-alike (λ (n : ℕ). hitShown ov nv (behindHit ov nv x c j n)) (anew extended ts) (length ts) 0 (λ i l. one-behind i (omega arith))
         ∙ anew-first extended ts
-        ∙ sym (extensions-by-lines (λ (e : Text). shownOn new old (dotted p filler e)) ts)
+        ∙ sym (extensions-by-lines (λ (e : Text). shownOn old new (dotted p filler e)) ts)
 
   -- ---- the stems
   -- the request to show for the trial paths of a line
   abbrev lineShown : Text → Option Request
-  lineShown t = firstSome (shownOn new old) (pathsOfKind filler es (kindOf t))
+  lineShown t = firstSome (shownOn old new) (pathsOfKind filler es (kindOf t))
 
-  stem-shown : (j : ℕ) → j < length ts → hitShown old new (stemHit x c j) ≡ anew lineShown ts j
+  stem-shown : (j : ℕ) → j < length ts → hitShown ov nv (stemHit x c j) ≡ anew lineShown ts j
   stem-shown j h = go (member (getD ts j []) (take j ts)) refl
     where
-      kinds : (k : PatternKind) → kindOf (getD ts j []) ≡ k → sortAt x j ≡ sortOf k → StemIn old new x j k
-          → stemPlace (patternsOf old) k ≡ placed (leading (patternsOf old) (stemPath filler k)) → stemPlace (patternsOf new) k ≡ placed (leading (patternsOf new) (stemPath filler k))
-          → isPermitted k ≡ true → hitShown old new (stemHit x c j) ≡ firstSome (shownOn new old) (pathsOfKind filler es k)
+      kinds : (k : PatternKind) → kindOf (getD ts j []) ≡ k → sortAt x j ≡ sortOf k → StemIn ov nv x j k
+          → stemPlace (texts ov) k ≡ placed (leading (texts ov) (stemPath filler k)) → stemPlace (texts nv) k ≡ placed (leading (texts nv) (stemPath filler k))
+          → isPermitted k ≡ true → hitShown ov nv (stemHit x c j) ≡ firstSome (shownOn old new) (pathsOfKind filler es k)
       kinds (exact q) k s S a b l =
-          sort-one old new x c j (ap (λ (v : ℕ). eqb v 0) s) (ap (λ (v : ℕ). eqb v 2) s) ∙ stem-caught j (exact q) (kind-here j h ∙ k) S a b ∙ sym (some-one (shownOn new old) q)
+          sort-one ov nv x c j (ap (λ (v : ℕ). eqb v 0) s) (ap (λ (v : ℕ). eqb v 2) s) ∙ stem-caught j (exact q) (kind-here j h ∙ k) S a b ∙ sym (some-one (shownOn old new) q)
       kinds (prefix p) k s S a b l =
-          sort-two old new x c j (ap (λ (v : ℕ). eqb v 0) s) (ap (λ (v : ℕ). eqb v 2) s)
+          sort-two ov nv x c j (ap (λ (v : ℕ). eqb v 0) s) (ap (λ (v : ℕ). eqb v 2) s)
           ∙ ap₂ orElse (stem-caught j (prefix p) (kind-here j h ∙ k) S a b) (behind-shown j p (kind-here j h ∙ k) (prefix-rooted (getD ts j []) p k) S)
-          ∙ sym (paths-below (shownOn new old) filler p es)
+          ∙ sym (paths-below (shownOn old new) filler p es)
       kinds (extension e) k s S a b l =
-          sort-one old new x c j (ap (λ (v : ℕ). eqb v 0) s) (ap (λ (v : ℕ). eqb v 2) s) ∙ stem-caught j (extension e) (kind-here j h ∙ k) S a b
-          ∙ sym (some-one (shownOn new old) (dotted [] filler e))
+          sort-one ov nv x c j (ap (λ (v : ℕ). eqb v 0) s) (ap (λ (v : ℕ). eqb v 2) s) ∙ stem-caught j (extension e) (kind-here j h ∙ k) S a b
+          ∙ sym (some-one (shownOn old new) (dotted [] filler e))
       kinds default k s S a b l =
-          sort-one old new x c j (ap (λ (v : ℕ). eqb v 0) s) (ap (λ (v : ℕ). eqb v 2) s) ∙ stem-caught j default (kind-here j h ∙ k) S a b
-          ∙ sym (some-one (shownOn new old) (below [] filler))
+          sort-one ov nv x c j (ap (λ (v : ℕ). eqb v 0) s) (ap (λ (v : ℕ). eqb v 2) s) ∙ stem-caught j default (kind-here j h ∙ k) S a b
+          ∙ sym (some-one (shownOn old new) (below [] filler))
       kinds unpermitted k s S a b l = absurd (never false l refl)
 
-      go : (b : Bool) → member (getD ts j []) (take j ts) ≡ b → hitShown old new (stemHit x c j) ≡ anew lineShown ts j
-      go true m = sort-none old new x c j (sort-again j h m) ∙ sym (anew-again lineShown ts j m)
+      go : (b : Bool) → member (getD ts j []) (take j ts) ≡ b → hitShown ov nv (stemHit x c j) ≡ anew lineShown ts j
+      go true m = sort-none ov nv x c j (sort-again j h m) ∙ sym (anew-again lineShown ts j m)
       go false m =
-          kinds (kindOf (getD ts j [])) refl (sort-here j h m) (Z .stems j h m) (stem-placed filler (patternsOf old) fills-old (getD ts j []) (permitted j h))
-          (stem-placed filler (patternsOf new) fills-new (getD ts j []) (permitted j h)) (permitted j h)
+          kinds (kindOf (getD ts j [])) refl (sort-here j h m) (Z .stems j h m) (stem-placed filler (texts ov) fills-old (getD ts j []) (permitted j h))
+          (stem-placed filler (texts nv) fills-new (getD ts j []) (permitted j h)) (permitted j h)
           ∙ sym (anew-here lineShown ts j m)
 
-  last-shown : hitShown old new (stemHit x c (length ts)) ≡ shownOn new old (below [] filler)
+  last-shown : hitShown ov nv (stemHit x c (length ts)) ≡ shownOn old new (below [] filler)
   last-shown =
-      sort-one old new x c (length ts) (ap (λ (v : ℕ). eqb v 0) (Z .last-sort)) (ap (λ (v : ℕ). eqb v 2) (Z .last-sort))
-      ∙ stem-caught (length ts) default kind-last (Z .last-stem) (last-placed filler (patternsOf old) fills-old) (last-placed filler (patternsOf new) fills-new)
+      sort-one ov nv x c (length ts) (ap (λ (v : ℕ). eqb v 0) (Z .last-sort)) (ap (λ (v : ℕ). eqb v 2) (Z .last-sort))
+      ∙ stem-caught (length ts) default kind-last (Z .last-stem) (last-placed filler (texts ov) fills-old) (last-placed filler (texts nv) fills-new)
 
   -- ---- all trial paths
-  verdict-by-lines : verdict new old ≡ orElse (firstSome lineShown ts) (shownOn new old (below [] filler))
-  unfolding shown shownOn trialPaths pathsFor
-  verdict-by-lines = verdict-shown new old N ∙ paths-by-lines (shownOn new old) filler es ts
+  paths-listed : trialPaths old new ≡ pathsFor filler ts
+  unfolding trialPaths fillerOf
+  paths-listed = ap (λ (us : List Text). pathsFor (fillerIn us) us) (sym texts-listed)
+
+  verdict-by-lines : verdict old new ≡ orElse (firstSome lineShown ts) (shownOn old new (below [] filler))
+  unfolding shown shownOn pathsFor
+  verdict-by-lines = verdict-shown old new N ∙ ap (firstSome (shownOn old new)) paths-listed ∙ paths-by-lines (shownOn old new) filler es ts
 
   -- the walk over the numbers finds the verdict
-  pub walked-verdict : hitShown old new (walked x c) ≡ verdict new old
+  pub walked-verdict : hitShown ov nv (walked x c) ≡ verdict old new
   unfolding walked
   walked-verdict =
-      let all : c .old + c .new + 1 ≡ suc (length ts) = omega (arith, all-lines) in
+      let all : c .old + c .new + 1 ≡ suc (length ts) = omega (arith, all-lines ov nv x c Z) in
       let last : 0 + length ts ≡ length ts = omega arith in
-      ap (λ (k : ℕ). hitShown old new (walkFrom x c k 0)) all
-      ∙ walk-from old new x c (suc (length ts)) 0
-      ∙ from-last (λ (n : ℕ). hitShown old new (stemHit x c n)) (length ts) 0
+      ap (λ (k : ℕ). hitShown ov nv (walkFrom x c k 0)) all
+      ∙ walk-from ov nv x c (suc (length ts)) 0
+      ∙ from-last (λ (n : ℕ). hitShown ov nv (stemHit x c n)) (length ts) 0
       ∙ ap₂ orElse
-      (from-alike (λ (n : ℕ). hitShown old new (stemHit x c n)) (anew lineShown ts) (length ts) 0 (λ i l. stem-shown i (omega arith)) ∙ anew-first lineShown ts)
-      (ap (λ (n : ℕ). hitShown old new (stemHit x c n)) last ∙ last-shown)
+      (from-alike (λ (n : ℕ). hitShown ov nv (stemHit x c n)) (anew lineShown ts) (length ts) 0 (λ i l. stem-shown i (omega arith)) ∙ anew-first lineShown ts)
+      (ap (λ (n : ℕ). hitShown ov nv (stemHit x c n)) last ∙ last-shown)
       ∙ sym verdict-by-lines

@@ -30,13 +30,13 @@ module _ (v u : ℕ) (b : Bool) (e : b ≡ isFirmIn v) where
   line-yields t = rw (sym e ∙ t)
 
 -- both are judged
-pub behind-judged : (x : List ℕ) (c : Counts) (j i a b v v′ u u′ : ℕ) (r : Caught) → v ≡ inNew x j → v′ ≡ inNew x i → a ≡ lineIn (staying v v′)
-    → u ≡ inOld x j → u′ ≡ inOld x i → b ≡ lineIn (staying u u′)
-    → r ≡ caughtIn (newSide x) (c .new) (oldSide x) (c .old) (pairsIn x) (c .methods) a b → r ≡ caughtBehind x c j i
+pub behind-judged : (x : List ℕ) (c : Counts) (j i a b u u′ v v′ : ℕ) (r : Caught) → u ≡ inOld x j → u′ ≡ inOld x i → a ≡ lineIn (staying u u′)
+    → v ≡ inNew x j → v′ ≡ inNew x i → b ≡ lineIn (staying v v′)
+    → r ≡ caughtIn (oldSide x) (c .old) (newSide x) (c .new) (pairsIn x) (c .methods) a b → r ≡ caughtBehind x c j i
 unfolding caughtAt
-behind-judged x c j i a b v v′ u u′ r p p′ f q q′ g e =
+behind-judged x c j i a b u u′ v v′ r p p′ f q q′ g e =
     e
-    ∙ ap₂ (caughtIn (newSide x) (c .new) (oldSide x) (c .old) (pairsIn x) (c .methods))
+    ∙ ap₂ (caughtIn (oldSide x) (c .old) (newSide x) (c .new) (pairsIn x) (c .methods))
     (f ∙ ap₂ (λ (y z : ℕ). lineIn (staying y z)) p p′) (g ∙ ap₂ (λ (y z : ℕ). lineIn (staying y z)) q q′)
 
 -- ---- the extensions behind a stem
@@ -101,20 +101,20 @@ module _ (x : List ℕ) (c : Counts) (j : ℕ) (ro rn : List ℕ) (S : AtStem x 
 
 -- the rows that were picked are judged
 pub together-judged : (x : List ℕ) (c : Counts) (j u v : ℕ) (ro rn each any o n : List ℕ) (f g : Bool) (r : Caught) → u ≡ inOld x j → f ≡ isFirmIn u → o ≡ cond f ro each
-    → v ≡ inNew x j → g ≡ isFirmIn v → n ≡ cond g rn any → r ≡ caughtFrom n o (pairsIn x) (c .methods) 0 → r ≡ caughtTogether x c j ro rn each any
+    → v ≡ inNew x j → g ≡ isFirmIn v → n ≡ cond g rn any → r ≡ caughtFrom o n (pairsIn x) (c .methods) 0 → r ≡ caughtTogether x c j ro rn each any
 unfolding caughtTogether
 together-judged x c j u v ro rn each any o n f g r p f′ o′ q g′ n′ e =
     e
-    ∙ ap₂ (λ (y z : List ℕ). caughtFrom y z (pairsIn x) (c .methods) 0) (n′ ∙ ap (λ (b : Bool). cond b rn any) (g′ ∙ ap isFirmIn q))
-    (o′ ∙ ap (λ (b : Bool). cond b ro each) (f′ ∙ ap isFirmIn p))
+    ∙ ap₂ (λ (y z : List ℕ). caughtFrom y z (pairsIn x) (c .methods) 0) (o′ ∙ ap (λ (b : Bool). cond b ro each) (f′ ∙ ap isFirmIn p))
+    (n′ ∙ ap (λ (b : Bool). cond b rn any) (g′ ∙ ap isFirmIn q))
 
 -- ---- what a stem shows
 module _ (x : List ℕ) (c : Counts) (j : ℕ) (ro rn : List ℕ) (S : AtStem x c j ro rn) (first : eqb (sortAt x j) 0 ≡ false)
-    (r : Caught) (judged : r ≡ caughtFrom rn ro (pairsIn x) (c .methods) 0) where
+    (r : Caught) (judged : r ≡ caughtFrom ro rn (pairsIn x) (c .methods) 0) where
   -- who is caught on its path
   stem-caught : caughtAt x c (inOld x j) (inNew x j) ≡ r
   unfolding caughtAt caughtIn
-  stem-caught = sym (judged ∙ ap₂ (λ (y z : List ℕ). caughtFrom y z (pairsIn x) (c .methods) 0) (S .new-row) (S .old-row))
+  stem-caught = sym (judged ∙ ap₂ (λ (y z : List ℕ). caughtFrom y z (pairsIn x) (c .methods) 0) (S .old-row) (S .new-row))
 
   -- its path shows
   pub stem-found : (m d : ℕ) → r ≡ C.At m d → H.At j 0 m d ≡ stemHit x c j

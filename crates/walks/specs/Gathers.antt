@@ -67,4 +67,4 @@ pub record AtStem (x : List ℕ) (c : Counts) (j : ℕ) (ro rn : List ℕ) : Typ
 unfoldable pub caughtTogether : List ℕ → Counts → ℕ → List ℕ → List ℕ → List ℕ → List ℕ → Caught
 unfolding caughtFrom
 caughtTogether x c j ro rn each any =
-    caughtFrom (cond (isFirmIn (inNew x j)) rn any) (cond (isFirmIn (inOld x j)) ro each) (pairsIn x) (c .methods) 0
+    caughtFrom (cond (isFirmIn (inOld x j)) ro each) (cond (isFirmIn (inNew x j)) rn any) (pairsIn x) (c .methods) 0

@@ -6,11 +6,11 @@ use mathlib.Core.Option.{Option, none, some}
 use lib.ListN.{length, getD}
 use lib.Dec.{eqb, ltb}
 use Rattle.text.specs.Texts.{Text, dot}
-use Rattle.listings.specs.Patterns.{PatternKind, default, kindOf}
-use Rattle.listings.specs.Listings.{Listing}
+use Rattle.names.specs.Patterns.{PatternKind, default, kindOf}
+use Rattle.reading.specs.Views.{View}
 use Rattle.decisions.specs.Requests.{Request, request}
-use Rattle.trials.specs.Fillers.{fillerOf}
-use Rattle.trials.specs.Trials.{extensionIn, trialMethods}
+use Rattle.trials.specs.Fillers.{filler}
+use Rattle.trials.specs.Trials.{extensionIn, methodsTried}
 use Rattle.grants.specs.Sides.{callerAt}
 use Rattle.grants.specs.Catches.{caughtIn}
 use Rattle.grants.specs.Scratch.{oldSide, newSide, pairsIn, inOld, inNew, sortAt, lineIn, staying, textsOf, stemPath}
@@ -24,7 +24,7 @@ use Rattle.walks.specs.declared.walking.Hit.the-variants as H
 -- who is caught where the best line is u in old and v in new
 unfoldable pub caughtAt : List ℕ → Counts → ℕ → ℕ → Caught
 unfolding caughtIn
-caughtAt x c u v = caughtIn (newSide x) (c .new) (oldSide x) (c .old) (pairsIn x) (c .methods) (lineIn v) (lineIn u)
+caughtAt x c u v = caughtIn (oldSide x) (c .old) (newSide x) (c .new) (pairsIn x) (c .methods) (lineIn u) (lineIn v)
 
 -- at stem j, with the extension of stem i behind it
 abbrev pub caughtBehind : List ℕ → Counts → ℕ → ℕ → Caught
@@ -78,9 +78,10 @@ ending ts (suc i) = endingOf (extensionIn (kindAt ts i))
     endingOf (e ∷ es) = dot ∷ e
 
 abbrev pub hitPath : Text → List Text → ℕ → ℕ → Text
-hitPath filler ts j e = stemPath filler (kindAt ts j) ++ ending ts e
+hitPath made ts j e = stemPath made (kindAt ts j) ++ ending ts e
 
-abbrev pub hitShown : Listing → Listing → Hit → Option Request
+-- of two views
+abbrev pub hitShown : View → View → Hit → Option Request
 hitShown old new H.Nothing = none
 hitShown old new (H.At j e m d) =
-    some (request (hitPath (fillerOf new old) (textsOf old new) j e) (getD (trialMethods new old) m []) (callerAt (new .roles) d))
+    some (request (hitPath (filler (textsOf old new)) (textsOf old new) j e) (getD (methodsTried (old .methods) (new .methods)) m []) (callerAt (new .roles) d))

@@ -6,10 +6,10 @@ ghost use lib.ListN.{length};
 ghost use Rattle.grants.specs.Sides.{rowIn};
 ghost use Rattle.grants.specs.Scratch.{oldSide, newSide, inOld, inNew, sortAt, lineIn, isFirmIn, staying, Walkable};
 ghost use Rattle.walks.specs.Gathers.{oldRow, newRow};
+use entries::tables;
 use grants::rows;
 use grants::scratch;
 use grants::scratch::Counts;
-use reading::tables;
 
 // Its best line in old.
 pub fn in_old(x: &[u32], j: usize) -> usize

@@ -26,12 +26,12 @@ pub fn catch_behind(x: &[u32], c: Counts, j: usize, i: usize) -> Caught
     requires { ⌜ Walkable (now x) c × ((j ≤ 256) × (i ≤ 256)) ⌝ }
     ensures { λ r. ⌜ r ≡ caughtBehind (now (x .entry)) c j i ⌝ }
 {
-    let a = stems::line_behind(stems::in_new(x, j), stems::in_new(x, i));
-    let b = stems::line_behind(stems::in_old(x, j), stems::in_old(x, i));
-    let new = &x[scratch::NEW_SIDE..scratch::METHODS];
+    let u = stems::line_behind(stems::in_old(x, j), stems::in_old(x, i));
+    let v = stems::line_behind(stems::in_new(x, j), stems::in_new(x, i));
     let old = &x[scratch::OLD_SIDE..scratch::NEW_SIDE];
+    let new = &x[scratch::NEW_SIDE..scratch::METHODS];
     let pairs = &x[scratch::METHODS..scratch::IN_OLD];
-    judging::judge_places(new, c.new, old, c.old, pairs, c.methods, a, b)
+    judging::judge_places(old, c.old, new, c.new, pairs, c.methods, u, v)
 }
 
 // The first extension by which stem j shows.
@@ -72,7 +72,7 @@ pub fn catch_together<'a>(
 {
     let o = gathering::own_or_all(stems::is_firm(stems::in_old(x, j)), ro, each);
     let n = gathering::own_or_all(stems::is_firm(stems::in_new(x, j)), rn, any);
-    judging::judge(n, o, &x[scratch::METHODS..scratch::IN_OLD], c.methods)
+    judging::judge(o, n, &x[scratch::METHODS..scratch::IN_OLD], c.methods)
 }
 
 // What stem j shows, whose rows are ro and rn.
@@ -88,7 +88,7 @@ pub fn try_stem<'a>(
     requires { ⌜ ((Walkable (now x) c × AtStem (now x) c j (now ro) (now rn)) × Gathered (now x) c (now each) (now any)) × (eqb (sortAt (now x) j) 0 ≡ false) ⌝ }
     ensures { λ r. ⌜ r ≡ stemHit (now (x .entry)) c j ⌝ }
 {
-    match judging::judge(rn, ro, &x[scratch::METHODS..scratch::IN_OLD], c.methods) {
+    match judging::judge(ro, rn, &x[scratch::METHODS..scratch::IN_OLD], c.methods) {
         Caught::At(m, d) => return Hit::At(j, 0, m, d),
         Caught::Nothing => {}
     }

@@ -1,6 +1,6 @@
--- `comparer::compare_held` meets its contract: the marks and the numbers leave both listings as they are.
+-- `comparer::compare_held` meets its contract: the marks and the numbers leave both listings as they are, and what is found of their views is the verdict.
 use borrow.Author.Needs.{needs}
-use Rattle.comparing.proofs.Compares.{marked-both, both-prepared, rest-stays}
+use Rattle.comparing.proofs.Compares.{marked-both, both-prepared, filler-stays, held-handed, held-written, rest-stays}
 use Rattle.comparing.proofs.comparer.compare_held.Statement.{statement}
 use Rattle.comparing.proofs.comparer.compare_held.Tie as tie
 
@@ -11,7 +11,7 @@ number-requires : tie.Need-number-requires
 number-requires c κs = (search needs, search (needs, marked-both))
 
 compare-numbers-requires : tie.Need-compare-numbers-requires
-compare-numbers-requires c κs = ((search (needs, both-prepared), search needs), search needs)
+compare-numbers-requires c κs = ((search (needs, both-prepared), search (needs, filler-stays)), search needs)
 
 same-length : tie.Need-same-length
 same-length c = search needs
@@ -20,7 +20,9 @@ same-length-2 : tie.Need-same-length-2
 same-length-2 c = search needs
 
 returns : tie.Need-returns
-returns c = (search needs, (search needs, (search (needs, rest-stays), search needs)))
+returns c =
+    let pre = c .before .before .before .before .before .before .before .before .before .before .before .before .before .before .before .before .before .before .before .pre in
+    (search (needs, held-handed, pre), (search (needs, held-written, pre), (search (needs, rest-stays), search needs)))
 
 pub compare-held-spec : {M : Type 1} → statement M
 compare-held-spec =

@@ -1,6 +1,6 @@
 -- `comparer::compare_loaded` meets its contract: by what reading answered, old first.
 use borrow.Author.Needs.{needs}
-use Rattle.comparing.proofs.Compares.{long-table, both-held, old-refused, old-keeps, new-refused, new-keeps, both-handed, both-written, rest-of}
+use Rattle.comparing.proofs.Compares.{long-table, both-read, old-refused, old-keeps, new-refused, new-keeps, both-handed, both-written, rest-of}
 use Rattle.comparing.proofs.comparer.compare_loaded.Statement.{statement}
 use Rattle.comparing.proofs.comparer.compare_loaded.Tie as tie
 
@@ -29,7 +29,7 @@ enum-known-ln-2 : tie.Need-enum-known-ln-2
 enum-known-ln-2 c = search needs
 
 compare-held-requires : tie.Need-compare-held-requires
-compare-held-requires c κs = ((search (needs, long-table), search (needs, both-held)), search needs)
+compare-held-requires c κs = ((search (needs, long-table), search (needs, both-read)), search needs)
 
 returns : tie.Need-returns
 returns c = (search (needs, old-refused), (search (needs, old-keeps), search needs))

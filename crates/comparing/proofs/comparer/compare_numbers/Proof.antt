@@ -1,6 +1,6 @@
 -- `comparer::compare_numbers` meets its contract: the walk, and what is told of its hit.
 use borrow.Author.Needs.{needs}
-use Rattle.comparing.proofs.Tellings.{walk-safe, tells, hit-verdict-is}
+use Rattle.comparing.proofs.Tellings.{walk-safe, tells, hit-trial, walked-handed, walked-written}
 use Rattle.comparing.proofs.comparer.compare_numbers.Statement.{statement}
 use Rattle.comparing.proofs.comparer.compare_numbers.Tie as tie
 
@@ -17,13 +17,13 @@ walk-requires : tie.Need-walk-requires
 walk-requires c κs = search (needs, walk-safe)
 
 tell-requires : tie.Need-tell-requires
-tell-requires c κs = ((search (needs, tells), search (needs, hit-verdict-is)), search needs)
+tell-requires c κs = (((search (needs, tells), search (needs, hit-trial)), search needs), search needs)
 
 same-length : tie.Need-same-length
 same-length c = search needs
 
 returns : tie.Need-returns
-returns c = search needs
+returns c = (search (needs, walked-handed), search (needs, walked-written))
 
 pub compare-numbers-spec : {M : Type 1} → statement M
 compare-numbers-spec =

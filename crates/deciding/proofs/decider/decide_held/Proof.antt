@@ -43,6 +43,9 @@ answer-for-requires c κs = search needs
 number-requires : tie.Need-number-requires
 number-requires c κs = search needs
 
+tell-requires : tie.Need-tell-requires
+tell-requires c κs = search needs
+
 returns-3 : tie.Need-returns-3
 returns-3 c = search (needs, caller-refused)
 
@@ -66,5 +69,6 @@ decide-held-spec =
     enum-known-h
     answer-for-requires
     number-requires
+    tell-requires
     returns-3
     returns-4)

@@ -1,6 +1,7 @@
 -- `decider::decide_with` meets its contract: the first n numbers hold the listing until they are zero.
 use borrow.Author.Needs.{needs}
-use Rattle.deciding.proofs.Calls.{lent-length, lent-room, back-length, back-outcome, back-same, back-zeroed}
+use Rattle.worktable.proofs.Lent.{lent-length, lent-room, back-length, back-same, back-zeroed}
+use Rattle.deciding.proofs.Calls.{back-outcome}
 use Rattle.deciding.proofs.decider.decide_with.Statement.{statement}
 use Rattle.deciding.proofs.decider.decide_with.Tie as tie
 

@@ -2,14 +2,14 @@
 use borrow.Author.Needs.{needs}
 use mathlib.Core.Path.{_≡_}
 use Prim.Native.Nat.{_-_, _≤_}
-use Rattle.listings.specs.Listings.{listingOf}
+use Rattle.reading.specs.Views.{viewAt}
 use Rattle.deciding.specs.Joinings.{joinedUpTo}
 use Rattle.deciding.proofs.Turns.{join-start, join-past, join-takes, join-end}
 use Rattle.deciding.proofs.joining.join_lines.Statement.{statement}
 use Rattle.deciding.proofs.joining.join_lines.Tie as tie
 
 abbrev Inv-loop : tie.InvT-loop
-Inv-loop s w t text m n j₀ k₀ j k = (j ≡ joinedUpTo (listingOf s) text m k) × (k ≤ n)
+Inv-loop s w t text m n j₀ k₀ j k = (j ≡ joinedUpTo (viewAt s t w) text m k) × (k ≤ n)
 
 abbrev μ-loop : tie.MeasureT-loop
 μ-loop s w t text m n j₀ k₀ j k = n - k

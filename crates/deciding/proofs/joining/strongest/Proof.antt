@@ -3,14 +3,15 @@ use borrow.Author.Needs.{needs}
 use mathlib.Core.Path.{_≡_}
 use Prim.Native.Nat.{_-_}
 use lib.ListN.{take}
-use Rattle.listings.specs.Listings.{listingOf, patternsOf}
-use Rattle.deciding.specs.Strengths.{leading}
-use Rattle.deciding.proofs.Matchings.{lead-none, lead-few, lead-short, lead-step, lead-count, lead-all}
+use Rattle.reading.specs.Views.{texts, viewAt}
+use Rattle.matching.specs.Strengths.{leading}
+use Rattle.matching.proofs.Matchings.{lead-none, lead-step, lead-count, lead-all}
+use Rattle.deciding.proofs.Shorts.{lead-few, lead-short}
 use Rattle.deciding.proofs.joining.strongest.Statement.{statement}
 use Rattle.deciding.proofs.joining.strongest.Tie as tie
 
 abbrev Inv-loop : tie.InvT-loop
-Inv-loop s w t path n e x₀ k₀ x k = (x ≡ leading (take k (patternsOf (listingOf s))) path) × (x .seen ≡ k)
+Inv-loop s w t path n e x₀ k₀ x k = (x ≡ leading (take k (texts (viewAt s t w))) path) × (x .seen ≡ k)
 
 abbrev μ-loop : tie.MeasureT-loop
 μ-loop s w t path n e x₀ k₀ x k = n - k

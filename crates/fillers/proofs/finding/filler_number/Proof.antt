@@ -28,17 +28,20 @@ zero-first-requires c κs = search needs
 
 mark-lines-requires : tie.Need-mark-lines-requires
 mark-lines-requires c κs =
-    let start = c .before .before .before .before .before .before .before .before in
-    let zero = c .before .before .before .zero-first in
+    let zeroed = c .before .before .before in
+    let start = zeroed .before .before .before .before .before in
+    let zero = zeroed .zero-first in
     ((start .pre .0 .0, le-refl _), (new-room _ _ (zero .last .0) (start .pre .0 .1) (zero .kept .0), new-held _ _ (zero .last .0) (start .pre .0 .1) (zero .kept .0) _ _ (start .pre .1 .1)))
 
 mark-lines-requires-2 : tie.Need-mark-lines-requires-2
 mark-lines-requires-2 c κs =
-    let start = c .before .before .before .before .before .before .before .before .before .before .before .before in
-    let zero = c .before .before .before .before .before .before .before .zero-first in
-    let new = c .before .before .before .mark-lines in (
+    let marked = c .before .before .before in
+    let zeroed = marked .before .before .before .before in
+    let start = zeroed .before .before .before .before .before in
+    let zero = zeroed .zero-first in
+    let new = marked .mark-lines in (
       (start .pre .0 .0, zero≤),
-      (old-room _ _ (zero .last .0) (start .pre .0 .1) (zero .kept .0) _ _ (new .ensures), old-held _ _ (zero .last .0) (start .pre .0 .1) (zero .kept .0) _ _ (new .ensures) _ _ (start .pre .1 .0)),
+      (old-room _ _ (zero .last .0) (start .pre .0 .1) (zero .kept .0) _ _ _ (new .ensures), old-held _ _ (zero .last .0) (start .pre .0 .1) (zero .kept .0) _ _ _ (new .ensures) _ _ (start .pre .1 .0)),
     )
 
 mul-first-unmarked : tie.Need-mul-first-unmarked
@@ -61,12 +64,15 @@ same-length c = search needs
 
 returns : tie.Need-returns
 returns c =
-    let start = c .before .before .before .before .before .before .before .before .before .before .before .before .before .before .before .before .before .before in
-    let zero = c .before .before .before .before .before .before .before .before .before .before .before .before .before .zero-first in
-    let new = c .before .before .before .before .before .before .before .before .before .mark-lines in
-    let old = c .before .before .before .before .before .mark-lines2 in
+    let both = c .before .before .before .before .before in
+    let marked = both .before .before .before .before in
+    let zeroed = marked .before .before .before .before in
+    let start = zeroed .before .before .before .before .before in
+    let zero = zeroed .zero-first in
+    let new = marked .mark-lines in
+    let old = both .mark-lines2 in
     let first = c .first-unmarked in
-    filler-found _ _ _ (start .pre .0 .1) (zero .kept .0) _ _ (new .ensures) _ _ (old .ensures) (start .pre .0 .0) (zero .ensures) _ _ (start .pre .1 .1) (start .pre .1 .0) _ (first .ensures .0) (first .ensures .1)
+    filler-found _ _ _ (start .pre .0 .1) (zero .kept .0) _ _ _ (new .ensures) _ _ _ (old .ensures) (start .pre .0 .0) (zero .ensures) (start .pre .1 .1) (start .pre .1 .0) _ (first .ensures .0) (first .ensures .1)
 
 pub filler-number-spec : {M : Type 1} → statement M
 filler-number-spec =

@@ -1,7 +1,7 @@
 -- `finding::is_unnamed` meets its contract: new's methods are asked, then old's.
 use native.Mathlib.Omega.{arith}
 use borrow.Author.Needs.{needs}
-use Rattle.deciding.proofs.Calls.{lent-length}
+use Rattle.worktable.proofs.Lent.{lent-length}
 use Rattle.fillers.proofs.Unnamed.{named-first, named-then}
 use Rattle.fillers.proofs.finding.is_unnamed.Statement.{statement}
 use Rattle.fillers.proofs.finding.is_unnamed.Tie as tie

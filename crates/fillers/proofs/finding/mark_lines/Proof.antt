@@ -2,19 +2,20 @@
 use Prim.Native.Nat.{_≤_, _-_}
 use mathlib.Core.Path.{_≡_}
 use borrow.Author.Needs.{needs}
-use lib.ListN.{length, drop}
-use Rattle.listings.specs.Listings.{listingOf, patternsOf}
+use lib.ListN.{length, take, drop}
+use Rattle.reading.specs.Views.{texts, viewAt}
 use Rattle.fillers.specs.Marks.{withinAny}
 use Rattle.fillers.proofs.Marking.{Remaining}
-use Rattle.fillers.proofs.MarkingLines.{Around, marksIn, around-none, around-holds, lines-start, lines-end, marks-lent, turn-around, turn-marks}
+use Rattle.fillers.proofs.MarkingLines.{Around, marksIn, around-none, around-holds, lines-counted, line-there, line-read, lines-start, lines-end, marks-lent, turn-around, turn-marks}
 use Rattle.fillers.proofs.finding.mark_lines.Statement.{statement}
 use Rattle.fillers.proofs.finding.mark_lines.Tie as tie
 
 abbrev Inv-loop : tie.InvT-loop
 Inv-loop s w₀ t from n to a e count k₀ w k =
-    (k ≤ length (patternsOf (listingOf s)))
+    (count ≡ length (texts (viewAt s t (take n (drop from w₀)))))
+    × (k ≤ count)
     × Around n w₀ w
-    × Remaining (withinAny (patternsOf (listingOf s))) (withinAny (drop k (patternsOf (listingOf s)))) (marksIn n w₀) (marksIn n w)
+    × Remaining (withinAny (texts (viewAt s t (take n (drop from w₀))))) (withinAny (drop k (texts (viewAt s t (take n (drop from w₀)))))) (marksIn n w₀) (marksIn n w)
 
 abbrev μ-loop : tie.MeasureT-loop
 μ-loop s w₀ t from n to a e count k₀ w k = count - k
@@ -44,7 +45,7 @@ pattern-count-requires : tie.Need-pattern-count-requires Inv-loop μ-loop
 pattern-count-requires c κs = search (needs, around-none, around-holds)
 
 loop-holds : tie.Need-loop-holds Inv-loop μ-loop
-loop-holds c = search (needs, around-none, lines-start)
+loop-holds c = (search (needs, lines-counted), search needs, around-none _ _, lines-start _ _)
 
 mul-pattern : tie.Need-mul-pattern Inv-loop μ-loop
 mul-pattern c = search needs
@@ -59,7 +60,9 @@ part-pattern-end : tie.Need-part-pattern-end Inv-loop μ-loop
 part-pattern-end c = search needs
 
 pattern-requires : tie.Need-pattern-requires Inv-loop μ-loop
-pattern-requires c κs = search (needs, around-holds)
+pattern-requires c κs =
+    let at = c .before .before .before in
+    (search (needs, around-holds), line-there _ _ _ _ _ _ _ _ (at .loop .inv .2) (at .loop .inv .0) (search needs) (search needs))
 
 mul-mark-text : tie.Need-mul-mark-text Inv-loop μ-loop
 mul-mark-text c = search needs
@@ -85,8 +88,12 @@ loop-less c = search needs
 loop-again : tie.Need-loop-again Inv-loop μ-loop
 loop-again c =
     let text = c .before .before .before .before .pattern in
-    let at = c .before .before .before .before .before .before .before .before in
-    (search needs, search (needs, turn-around), turn-marks _ _ _ (search needs) (at .loop .inv .1) _ _ _ _ _ (at .loop .inv .2) (at .before .pattern-count .ensures) (search needs) (text .ensures) (c .before .before .mark-text .ensures))
+    let at = c .before .before .before .before .before .before .before .before in (
+      at .loop .inv .0,
+      search needs,
+      search (needs, turn-around),
+      turn-marks _ _ _ (search needs) (at .loop .inv .2) _ _ _ _ _ (at .loop .inv .3) (at .loop .inv .0) (search needs) (line-read _ _ _ _ _ _ _ _ (at .loop .inv .2) (text .ensures) (search needs)) (c .before .before .mark-text .ensures),
+    )
 
 same-length : tie.Need-same-length Inv-loop μ-loop
 same-length c = search needs
@@ -94,7 +101,7 @@ same-length c = search needs
 returns : tie.Need-returns Inv-loop μ-loop
 returns c =
     let at = c .before in
-    (lines-end _ _ _ _ (at .loop .inv .2) _ (at .before .pattern-count .ensures) (c .loop-test .left), (at .loop .inv .1 .tables, (at .loop .inv .1 .rest, at .loop .inv .1 .size)))
+    (lines-end _ _ _ _ (at .loop .inv .3) _ (at .loop .inv .0) (c .loop-test .left), (at .loop .inv .2 .tables, (at .loop .inv .2 .rest, at .loop .inv .2 .size)))
 
 pub mark-lines-spec : {M : Type 1} → statement M
 mark-lines-spec =

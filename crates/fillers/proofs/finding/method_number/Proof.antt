@@ -5,14 +5,14 @@ use mathlib.Core.Bool.{false}
 use mathlib.Core.List.{_++_}
 use borrow.Author.Count.{below-more}
 use borrow.Author.Needs.{needs}
-use Rattle.listings.specs.Listings.{listingOf}
+use Rattle.reading.specs.Views.{viewAt}
 use Rattle.trials.specs.Fillers.{isUnnamed}
 use Rattle.fillers.proofs.Unnamed.{method-found, method-missed}
 use Rattle.fillers.proofs.finding.method_number.Statement.{statement}
 use Rattle.fillers.proofs.finding.method_number.Tie as tie
 
 abbrev Inv-loop : tie.InvT-loop
-Inv-loop old wo to new wn tn n₀ n = (n ≤ 99) × ((i : ℕ) → i < n → isUnnamed (listingOf new .methods ++ listingOf old .methods) i ≡ false)
+Inv-loop old wo to new wn tn n₀ n = (n ≤ 99) × ((i : ℕ) → i < n → isUnnamed (viewAt new tn wn .methods ++ viewAt old to wo .methods) i ≡ false)
 
 abbrev μ-loop : tie.MeasureT-loop
 μ-loop old wo to new wn tn n₀ n = 99 - n

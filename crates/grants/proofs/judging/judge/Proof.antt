@@ -1,15 +1,15 @@
 -- `judging::judge` meets its contract: what is to come of the methods is the same at each turn.
 use borrow.Author.Needs.{needs}
 use Prim.Native.Nat.{_-_}
-use Rattle.grants.proofs.Judgings.{Looking, look-start, look-found, look-on, look-end, small-first, small-second}
+use Rattle.grants.proofs.Judgings.{Looking, look-start, look-found, look-on, look-end, small-second, small-first}
 use Rattle.grants.proofs.judging.judge.Statement.{statement}
 use Rattle.grants.proofs.judging.judge.Tie as tie
 
 abbrev Inv-loop : tie.InvT-loop
-Inv-loop rn ro pairs count i₀ i = Looking rn ro pairs count i
+Inv-loop ro rn pairs count i₀ i = Looking ro rn pairs count i
 
 abbrev μ-loop : tie.MeasureT-loop
-μ-loop rn ro pairs count i₀ i = count - i
+μ-loop ro rn pairs count i₀ i = count - i
 
 loop-holds : tie.Need-loop-holds Inv-loop μ-loop
 loop-holds c = search (needs, look-start)
@@ -36,16 +36,16 @@ wide-requires-2 : tie.Need-wide-requires-2 Inv-loop μ-loop
 wide-requires-2 c κs = search needs
 
 mul-fresh : tie.Need-mul-fresh Inv-loop μ-loop
-mul-fresh c = search (needs, small-first)
+mul-fresh c = search (needs, small-second)
 
 shared-slice-read-fresh : tie.Need-shared-slice-read-fresh Inv-loop μ-loop
-shared-slice-read-fresh c = search (needs, small-first)
+shared-slice-read-fresh c = search (needs, small-second)
 
 mul-fresh-2 : tie.Need-mul-fresh-2 Inv-loop μ-loop
-mul-fresh-2 c = search (needs, small-second)
+mul-fresh-2 c = search (needs, small-first)
 
 shared-slice-read-fresh-2 : tie.Need-shared-slice-read-fresh-2 Inv-loop μ-loop
-shared-slice-read-fresh-2 c = search (needs, small-second)
+shared-slice-read-fresh-2 c = search (needs, small-first)
 
 returns : tie.Need-returns Inv-loop μ-loop
 returns c = search (needs, look-found)

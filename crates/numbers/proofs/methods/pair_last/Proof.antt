@@ -1,7 +1,6 @@
--- `methods::pair_last` meets its contract: neither listing names the filler method.
+-- `methods::pair_last` meets its contract: neither view names the filler method.
 use borrow.Author.Needs.{needs}
-use Rattle.numbers.proofs.Pairings.{count-small}
-use Rattle.numbers.proofs.PairsPut.{last-room, last-put}
+use Rattle.numbers.proofs.PairsPut.{olds-small, news-small, last-room, last-put}
 use Rattle.numbers.proofs.methods.pair_last.Statement.{statement}
 use Rattle.numbers.proofs.methods.pair_last.Tie as tie
 
@@ -30,7 +29,7 @@ method-count-requires-2 : tie.Need-method-count-requires-2
 method-count-requires-2 c κs = search needs
 
 put-pair-requires : tie.Need-put-pair-requires
-put-pair-requires c κs = ((search needs, search (needs, last-room)), (search (needs, count-small), search (needs, count-small)))
+put-pair-requires c κs = ((search needs, search (needs, last-room)), (search (needs, olds-small), search (needs, news-small)))
 
 add-result : tie.Need-add-result
 add-result c = search needs

@@ -1,7 +1,7 @@
 -- `methods::pair_new` meets its contract: one method of new more at each turn.
 use borrow.Author.Needs.{needs}
 use Prim.Native.Nat.{_-_}
-use Rattle.numbers.proofs.PairsPut.{PairingNew, pairing-start, pairing-more, pairing-room, pairing-small, pairing-end}
+use Rattle.numbers.proofs.PairsPut.{PairingNew, pairing-start, pairing-there, pairing-more, pairing-room, pairing-small, pairing-end}
 use Rattle.numbers.proofs.methods.pair_new.Statement.{statement}
 use Rattle.numbers.proofs.methods.pair_new.Tie as tie
 
@@ -36,7 +36,7 @@ part-method-end : tie.Need-part-method-end Inv-loop μ-loop
 part-method-end c = search needs
 
 method-requires : tie.Need-method-requires Inv-loop μ-loop
-method-requires c κs = (search needs, search needs)
+method-requires c κs = (search needs, search (needs, pairing-there))
 
 sub-method-index : tie.Need-sub-method-index Inv-loop μ-loop
 sub-method-index c = search needs
@@ -51,7 +51,7 @@ method-index-requires : tie.Need-method-index-requires Inv-loop μ-loop
 method-index-requires c κs = search needs
 
 put-pair-requires : tie.Need-put-pair-requires Inv-loop μ-loop
-put-pair-requires c κs = ((search needs, search (needs, pairing-room)), (search needs, search (needs, pairing-small)))
+put-pair-requires c κs = ((search needs, search (needs, pairing-room)), (search (needs, pairing-small), search needs))
 
 add-i : tie.Need-add-i Inv-loop μ-loop
 add-i c = search needs

@@ -1,7 +1,7 @@
 -- `methods::pair_old` meets its contract: the methods of old passed so far are joined to those of new.
 use borrow.Author.Needs.{needs}
 use Prim.Native.Nat.{_-_}
-use Rattle.numbers.proofs.PairsPut.{PairingOld, further-start, further-known, further-more, further-room, further-end, further-count}
+use Rattle.numbers.proofs.PairsPut.{PairingOld, further-start, further-there, further-known, further-more, further-room, further-end, further-count}
 use Rattle.numbers.proofs.methods.pair_old.Statement.{statement}
 use Rattle.numbers.proofs.methods.pair_old.Tie as tie
 
@@ -51,7 +51,7 @@ part-method-end : tie.Need-part-method-end Inv-loop μ-loop
 part-method-end c = search needs
 
 method-requires : tie.Need-method-requires Inv-loop μ-loop
-method-requires c κs = (search needs, search needs)
+method-requires c κs = (search needs, search (needs, further-there))
 
 sub-method-index : tie.Need-sub-method-index Inv-loop μ-loop
 sub-method-index c = search needs
@@ -69,7 +69,9 @@ loop-less : tie.Need-loop-less Inv-loop μ-loop
 loop-less c = search needs
 
 loop-again : tie.Need-loop-again Inv-loop μ-loop
-loop-again c = search (needs, further-known)
+loop-again c =
+    let at = c .before .before .before .before .before .before .before .before in
+    further-known _ _ _ _ _ _ _ _ _ _ (at .loop .inv) (c .before .before .before .before .before .before .before .loop-test .taken) _ (c .before .before .before .before .method .ensures) _ (c .before .method-index .ensures) (c .if1 .taken)
 
 put-pair-requires : tie.Need-put-pair-requires Inv-loop μ-loop
 put-pair-requires c κs = ((search needs, search (needs, further-room)), (search needs, search needs))

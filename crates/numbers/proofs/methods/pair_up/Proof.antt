@@ -1,6 +1,6 @@
 -- `methods::pair_up` meets its contract: those of new, further ones of old, the filler method.
 use borrow.Author.Needs.{needs}
-use Rattle.numbers.proofs.PairsPut.{new-lent, old-lent, all-methods}
+use Rattle.numbers.proofs.PairsPut.{new-lent, new-paired, old-lent, old-paired, old-counted, all-methods}
 use Rattle.numbers.proofs.methods.pair_up.Statement.{statement}
 use Rattle.numbers.proofs.methods.pair_up.Tie as tie
 
@@ -8,14 +8,17 @@ pair-new-requires : tie.Need-pair-new-requires
 pair-new-requires c κs = search needs
 
 pair-old-requires : tie.Need-pair-old-requires
-pair-old-requires c κs = (search (needs, new-lent), search needs)
+pair-old-requires c κs = (search (needs, new-lent), search (needs, new-paired))
 
 pair-last-requires : tie.Need-pair-last-requires
 pair-last-requires c κs =
     let second = c .before .before .before in
     let first = second .before .before .before .before in
     let start = first .before .before .before .before .before in
-    (old-lent _ _ _ _ _ (start .pre) _ _ (first .pair-new .ensures) _ _ (second .pair-old .ensures .0), (search needs, search needs))
+    let paired = second .pair-old .ensures in (
+      old-lent _ _ _ _ _ (start .pre) _ (first .pair-new .ensures) _ (paired .0),
+      (old-paired _ _ _ _ _ (start .pre) _ (first .pair-new .ensures) _ (paired .0), old-counted _ _ _ _ _ (start .pre) _ (first .pair-new .ensures) _ (paired .0) _ (paired .1)),
+    )
 
 same-length : tie.Need-same-length
 same-length c = search needs

@@ -5,7 +5,7 @@ use native.Mathlib.Omega.{arith}
 use lib.Seq.{length-take-le}
 use borrow.Author.Tests.{not-false}
 use Rattle.text.proofs.Truths.{ladder}
-use Rattle.deciding.proofs.Matchings.{ended-long}
+use Rattle.matching.proofs.Matchings.{ended-long}
 use Rattle.numbers.proofs.Searchings.{below-is}
 use Rattle.numbers.proofs.searching.below_strength.Statement.{statement}
 use Rattle.numbers.proofs.searching.below_strength.Tie as tie

@@ -2,7 +2,7 @@
 use borrow.Author.Needs.{needs}
 use borrow.Author.Tests.{not-false}
 use Rattle.text.proofs.Truths.{ladder}
-use Rattle.listings.proofs.Namings.{starred-long}
+use Rattle.names.proofs.Namings.{starred-long}
 use Rattle.numbers.proofs.Searchings.{end-is}
 use Rattle.numbers.proofs.searching.end_strength.Statement.{statement}
 use Rattle.numbers.proofs.searching.end_strength.Tie as tie

@@ -3,7 +3,7 @@ use borrow.Author.Needs.{needs}
 use mathlib.Core.Path.{sym}
 use native.Mathlib.Omega.{arith}
 use lib.Seq.{length-take-le}
-use Rattle.deciding.proofs.Matchings.{ended-long}
+use Rattle.matching.proofs.Matchings.{ended-long}
 use Rattle.numbers.proofs.Searchings.{found-empty, found-root, end-extension, end-long, found-end, found-prefix, found-exact}
 use Rattle.numbers.proofs.searching.strongest_at.Statement.{statement}
 use Rattle.numbers.proofs.searching.strongest_at.Tie as tie

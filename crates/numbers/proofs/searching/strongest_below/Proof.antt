@@ -3,16 +3,16 @@ use borrow.Author.Needs.{needs}
 use mathlib.Core.Path.{_≡_}
 use Prim.Native.Nat.{_-_}
 use lib.ListN.{take}
-use Rattle.listings.specs.Listings.{listingOf, patternsOf}
-use Rattle.listings.specs.Patterns.{prefix}
+use Rattle.reading.specs.Views.{texts, viewAt}
+use Rattle.names.specs.Patterns.{prefix}
 use Rattle.grants.specs.Scratch.{stemStrength, leadingBy}
-use Rattle.deciding.proofs.Matchings.{lead-few, lead-short}
+use Rattle.deciding.proofs.Shorts.{lead-few, lead-short}
 use Rattle.numbers.proofs.Searchings.{by-none, by-step, by-all, by-count}
 use Rattle.numbers.proofs.searching.strongest_below.Statement.{statement}
 use Rattle.numbers.proofs.searching.strongest_below.Tie as tie
 
 abbrev Inv-loop : tie.InvT-loop
-Inv-loop s w t p n x₀ k₀ x k = (x ≡ leadingBy (stemStrength (prefix p)) (take k (patternsOf (listingOf s)))) × (x .seen ≡ k)
+Inv-loop s w t p n x₀ k₀ x k = (x ≡ leadingBy (stemStrength (prefix p)) (take k (texts (viewAt s t w)))) × (x .seen ≡ k)
 
 abbrev μ-loop : tie.MeasureT-loop
 μ-loop s w t p n x₀ k₀ x k = n - k

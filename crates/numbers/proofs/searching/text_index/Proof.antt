@@ -1,13 +1,13 @@
 -- `searching::text_index` meets its contract: no line passed has the text.
 use borrow.Author.Needs.{needs}
 use Prim.Native.Nat.{_-_}
-use Rattle.listings.specs.Listings.{listingOf, patternsOf}
+use Rattle.reading.specs.Views.{texts, viewAt}
 use Rattle.numbers.proofs.Searchings.{Seeking, seek-start, seek-found, seek-further, seek-none}
 use Rattle.numbers.proofs.searching.text_index.Statement.{statement}
 use Rattle.numbers.proofs.searching.text_index.Tie as tie
 
 abbrev Inv-loop : tie.InvT-loop
-Inv-loop s w t text n k₀ k = Seeking text (patternsOf (listingOf s)) n k
+Inv-loop s w t text n k₀ k = Seeking text (texts (viewAt s t w)) n k
 
 abbrev μ-loop : tie.MeasureT-loop
 μ-loop s w t text n k₀ k = n - k

@@ -1,13 +1,12 @@
 use borrow.Author.Needs.{needs}
 use Prim.Native.Nat.{_-_}
-use Rattle.listings.specs.Listings.{listingOf}
 use Rattle.reading.specs.Views.{coverAt}
-use Rattle.numbers.proofs.Writings.{Writing, write-start, write-more, write-all}
+use Rattle.numbers.proofs.Writings.{Writing, write-start, line-there, write-more, write-all}
 use Rattle.numbers.proofs.sides.fill_covers.Statement.{statement}
 use Rattle.numbers.proofs.sides.fill_covers.Tie as tie
 
 abbrev Inv-loop : tie.InvT-loop
-Inv-loop s w₀ t from at n k₀ w k = Writing s t from at n k (coverAt (listingOf s)) w₀ w
+Inv-loop s w₀ t from at n k₀ w k = Writing s t from at n k coverAt w₀ w
 
 abbrev μ-loop : tie.MeasureT-loop
 μ-loop s w₀ t from at n k₀ w k = n - k
@@ -49,7 +48,7 @@ part-cover-end : tie.Need-part-cover-end Inv-loop μ-loop
 part-cover-end c = search needs
 
 cover-requires : tie.Need-cover-requires Inv-loop μ-loop
-cover-requires c κs = search needs
+cover-requires c κs = (search needs, search (needs, line-there))
 
 add-w : tie.Need-add-w Inv-loop μ-loop
 add-w c = search needs
@@ -73,7 +72,7 @@ same-length : tie.Need-same-length Inv-loop μ-loop
 same-length c = search needs
 
 returns : tie.Need-returns Inv-loop μ-loop
-returns c = search (needs, write-all)
+returns c = write-all _ _ _ _ _ coverAt _ _ _ (c .before .loop .inv) (c .loop-test .left)
 
 pub fill-covers-spec : {M : Type 1} → statement M
 fill-covers-spec =

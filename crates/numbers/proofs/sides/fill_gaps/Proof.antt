@@ -1,15 +1,14 @@
 -- `sides::fill_gaps` meets its contract: one line more at each turn.
 use borrow.Author.Needs.{needs}
 use Prim.Native.Nat.{_-_}
-use Rattle.listings.specs.Listings.{listingOf, patternsOf}
 use Rattle.grants.specs.Sides.{gapAt}
-use Rattle.numbers.proofs.Writings.{Writing, write-start, write-more, write-all}
+use Rattle.numbers.proofs.Writings.{Writing, write-start, line-there, write-more, write-all}
 use Rattle.numbers.proofs.SideLines.{gap-small}
 use Rattle.numbers.proofs.sides.fill_gaps.Statement.{statement}
 use Rattle.numbers.proofs.sides.fill_gaps.Tie as tie
 
 abbrev Inv-loop : tie.InvT-loop
-Inv-loop s w₀ t from at n k₀ w k = Writing s t from at n k (gapAt (patternsOf (listingOf s))) w₀ w
+Inv-loop s w₀ t from at n k₀ w k = Writing s t from at n k gapAt w₀ w
 
 abbrev μ-loop : tie.MeasureT-loop
 μ-loop s w₀ t from at n k₀ w k = n - k
@@ -51,7 +50,7 @@ part-gap-end : tie.Need-part-gap-end Inv-loop μ-loop
 part-gap-end c = search needs
 
 gap-requires : tie.Need-gap-requires Inv-loop μ-loop
-gap-requires c κs = search needs
+gap-requires c κs = (search needs, search (needs, line-there))
 
 cast-w : tie.Need-cast-w Inv-loop μ-loop
 cast-w c = search (needs, gap-small)
@@ -78,7 +77,7 @@ same-length : tie.Need-same-length Inv-loop μ-loop
 same-length c = search needs
 
 returns : tie.Need-returns Inv-loop μ-loop
-returns c = search (needs, write-all)
+returns c = write-all _ _ _ _ _ gapAt _ _ _ (c .before .loop .inv) (c .loop-test .left)
 
 pub fill-gaps-spec : {M : Type 1} → statement M
 fill-gaps-spec =

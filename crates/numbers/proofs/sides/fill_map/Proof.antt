@@ -3,7 +3,7 @@ use borrow.Author.Needs.{needs}
 use mathlib.Core.List.{[]}
 use Prim.Native.Nat.{_-_}
 use lib.ListN.{getD}
-use Rattle.listings.specs.Listings.{listingOf}
+use Rattle.reading.specs.Views.{viewAt}
 use Rattle.text.specs.Texts.{indexOf}
 use Rattle.grants.proofs.Stores.{Filled}
 use Rattle.numbers.proofs.SideLines.{roles-start, role-small, map-more, map-all}
@@ -12,7 +12,7 @@ use Rattle.numbers.proofs.sides.fill_map.Statement.{statement}
 use Rattle.numbers.proofs.sides.fill_map.Tie as tie
 
 abbrev Inv-loop : tie.InvT-loop
-Inv-loop new wn tn s w t map₀ n i₀ map i = Filled 32 n i (λ j. indexOf (getD (listingOf new .roles) j []) (listingOf s .roles)) map
+Inv-loop new wn tn s w t map₀ n i₀ map i = Filled 32 n i (λ j. indexOf (getD (viewAt new tn wn .roles) j []) (viewAt s t w .roles)) map
 
 abbrev μ-loop : tie.MeasureT-loop
 μ-loop new wn tn s w t map₀ n i₀ map i = n - i
@@ -48,13 +48,13 @@ loop-again : tie.Need-loop-again Inv-loop μ-loop
 loop-again c =
     let turn = c .before .before .before in
     let start = turn .before .before .before .before .before .before .before in
-    map-more (listingOf (start .args .new .now) .roles) _ _ _ _ _ _ (turn .loop .inv) (omega arith) (c .before .role .ensures) (c .role-index .ensures)
+    map-more (viewAt (start .args .new .now) (start .args .tn) (start .args .wn .now) .roles) _ _ _ _ _ _ (turn .loop .inv) (omega arith) (c .before .role .ensures) (c .role-index .ensures)
 
 same-length : tie.Need-same-length Inv-loop μ-loop
 same-length c = search needs
 
 returns : tie.Need-returns Inv-loop μ-loop
-returns c = map-all _ _ _ _ _ (c .before .loop .inv) (omega arith) (c .before .before .role-count .ensures)
+returns c = (map-all _ _ _ _ _ (c .before .loop .inv) (omega arith) (c .before .before .role-count .ensures), search needs)
 
 pub fill-map-spec : {M : Type 1} → statement M
 fill-map-spec =

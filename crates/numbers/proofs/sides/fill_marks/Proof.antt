@@ -1,14 +1,13 @@
 -- `sides::fill_marks` meets its contract: one line more at each turn.
 use borrow.Author.Needs.{needs}
 use Prim.Native.Nat.{_-_}
-use Rattle.listings.specs.Listings.{listingOf}
 use Rattle.numbers.specs.Writes.{markAt}
-use Rattle.numbers.proofs.Writings.{Writing, write-start, write-more, write-all}
+use Rattle.numbers.proofs.Writings.{Writing, write-start, line-there, write-more, write-all}
 use Rattle.numbers.proofs.sides.fill_marks.Statement.{statement}
 use Rattle.numbers.proofs.sides.fill_marks.Tie as tie
 
 abbrev Inv-loop : tie.InvT-loop
-Inv-loop s w₀ t from at n k₀ w k = Writing s t from at n k (markAt (listingOf s)) w₀ w
+Inv-loop s w₀ t from at n k₀ w k = Writing s t from at n k markAt w₀ w
 
 abbrev μ-loop : tie.MeasureT-loop
 μ-loop s w₀ t from at n k₀ w k = n - k
@@ -50,7 +49,7 @@ part-mark-at-end : tie.Need-part-mark-at-end Inv-loop μ-loop
 part-mark-at-end c = search needs
 
 mark-at-requires : tie.Need-mark-at-requires Inv-loop μ-loop
-mark-at-requires c κs = search needs
+mark-at-requires c κs = (search needs, search (needs, line-there))
 
 add-w : tie.Need-add-w Inv-loop μ-loop
 add-w c = search needs
@@ -74,7 +73,7 @@ same-length : tie.Need-same-length Inv-loop μ-loop
 same-length c = search needs
 
 returns : tie.Need-returns Inv-loop μ-loop
-returns c = search (needs, write-all)
+returns c = write-all _ _ _ _ _ markAt _ _ _ (c .before .loop .inv) (c .loop-test .left)
 
 pub fill-marks-spec : {M : Type 1} → statement M
 fill-marks-spec =

@@ -17,7 +17,10 @@ add-fill-gaps : tie.Need-add-fill-gaps
 add-fill-gaps c = search needs
 
 fill-gaps-requires : tie.Need-fill-gaps-requires
-fill-gaps-requires c κs = search (needs, side-fourth)
+fill-gaps-requires c κs =
+    let marks = c .before .before .before in
+    let covers = marks .before .before .before .before in
+    side-fourth _ _ _ _ _ (covers .before .before .before .before .pre) _ (covers .fill-covers .ensures) _ (marks .fill-marks .ensures)
 
 same-length : tie.Need-same-length
 same-length c = search needs

@@ -1,18 +1,16 @@
 -- `sides::fill_roles` meets its contract: one line more at each turn.
 use borrow.Author.Needs.{needs}
 use Prim.Native.Nat.{_-_}
-use Rattle.listings.specs.Listings.{listingOf}
-use Rattle.numbers.specs.Writes.{rolesAt}
-use Rattle.numbers.proofs.Writings.{Writing, write-start, write-more, write-all}
-use Rattle.numbers.proofs.SideLines.{new-still}
+use Rattle.numbers.specs.Writes.{rolesBy}
+use Rattle.numbers.proofs.Writings.{Writing, write-start, line-there, write-more, write-all}
 use Rattle.numbers.proofs.sides.fill_roles.Statement.{statement}
 use Rattle.numbers.proofs.sides.fill_roles.Tie as tie
 
 abbrev Inv-loop : tie.InvT-loop
-Inv-loop new tn s w₀ t from map at n k₀ w k = Writing s t from at n k (rolesAt (listingOf new .roles) (listingOf s)) w₀ w
+Inv-loop s w₀ t from map n at count k₀ w k = Writing s t from at count k (rolesBy map n) w₀ w
 
 abbrev μ-loop : tie.MeasureT-loop
-μ-loop new tn s w₀ t from map at n k₀ w k = n - k
+μ-loop s w₀ t from map n at count k₀ w k = count - k
 
 add-pattern-count : tie.Need-add-pattern-count Inv-loop μ-loop
 add-pattern-count c = search needs
@@ -35,6 +33,12 @@ pattern-count-requires c κs = search needs
 loop-holds : tie.Need-loop-holds Inv-loop μ-loop
 loop-holds c = search (needs, write-start)
 
+add-roles-at : tie.Need-add-roles-at Inv-loop μ-loop
+add-roles-at c = search needs
+
+mul-roles-at : tie.Need-mul-roles-at Inv-loop μ-loop
+mul-roles-at c = search needs
+
 sub-roles-at : tie.Need-sub-roles-at Inv-loop μ-loop
 sub-roles-at c = search needs
 
@@ -44,23 +48,8 @@ part-roles-at-start c = search needs
 part-roles-at-end : tie.Need-part-roles-at-end Inv-loop μ-loop
 part-roles-at-end c = search needs
 
-add-roles-at : tie.Need-add-roles-at Inv-loop μ-loop
-add-roles-at c = search needs
-
-mul-roles-at : tie.Need-mul-roles-at Inv-loop μ-loop
-mul-roles-at c = search needs
-
-sub-roles-at-2 : tie.Need-sub-roles-at-2 Inv-loop μ-loop
-sub-roles-at-2 c = search needs
-
-part-roles-at-start-2 : tie.Need-part-roles-at-start-2 Inv-loop μ-loop
-part-roles-at-start-2 c = search needs
-
-part-roles-at-end-2 : tie.Need-part-roles-at-end-2 Inv-loop μ-loop
-part-roles-at-end-2 c = search needs
-
 roles-at-requires : tie.Need-roles-at-requires Inv-loop μ-loop
-roles-at-requires c κs = ((search (needs, new-still), search needs), (search needs, search needs))
+roles-at-requires c κs = ((search needs, search (needs, line-there)), (search needs, search needs))
 
 add-w : tie.Need-add-w Inv-loop μ-loop
 add-w c = search needs
@@ -84,7 +73,7 @@ same-length : tie.Need-same-length Inv-loop μ-loop
 same-length c = search needs
 
 returns : tie.Need-returns Inv-loop μ-loop
-returns c = search (needs, write-all)
+returns c = write-all _ _ _ _ _ _ _ _ _ (c .before .loop .inv) (c .loop-test .left)
 
 pub fill-roles-spec : {M : Type 1} → statement M
 fill-roles-spec =
@@ -99,14 +88,11 @@ fill-roles-spec =
     part-pattern-count-end
     pattern-count-requires
     loop-holds
+    add-roles-at
+    mul-roles-at
     sub-roles-at
     part-roles-at-start
     part-roles-at-end
-    add-roles-at
-    mul-roles-at
-    sub-roles-at-2
-    part-roles-at-start-2
-    part-roles-at-end-2
     roles-at-requires
     add-w
     mul-w

@@ -1,6 +1,6 @@
 -- `sides::fill_side` meets its contract: the roles, in new's numbers, beside the rest.
 use borrow.Author.Needs.{needs}
-use Rattle.numbers.proofs.SideLines.{side-third, side-new, side-written}
+use Rattle.numbers.proofs.SideLines.{own-few, side-third, side-written}
 use Rattle.numbers.proofs.sides.fill_side.Statement.{statement}
 use Rattle.numbers.proofs.sides.fill_side.Tie as tie
 
@@ -44,7 +44,7 @@ add-fill-roles : tie.Need-add-fill-roles
 add-fill-roles c = search needs
 
 fill-roles-requires : tie.Need-fill-roles-requires
-fill-roles-requires c κs = ((search (needs, side-new), search (needs, side-third)), search needs)
+fill-roles-requires c κs = (search (needs, side-third), (search needs, search (needs, own-few)))
 
 same-length : tie.Need-same-length
 same-length c = search needs

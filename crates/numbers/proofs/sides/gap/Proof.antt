@@ -1,13 +1,13 @@
 -- `sides::gap` meets its contract: no line passed has the text.
 use borrow.Author.Needs.{needs}
 use Prim.Native.Nat.{_-_}
-use Rattle.listings.specs.Listings.{listingOf, patternsOf}
+use Rattle.reading.specs.Views.{viewAt}
 use Rattle.numbers.proofs.SideLines.{Gapping, gap-start, gap-found, gap-further, gap-none}
 use Rattle.numbers.proofs.sides.gap.Statement.{statement}
 use Rattle.numbers.proofs.sides.gap.Tie as tie
 
 abbrev Inv-loop : tie.InvT-loop
-Inv-loop s w t k text n from j₀ j = Gapping (patternsOf (listingOf s)) k n j
+Inv-loop s w t k text n from j₀ j = Gapping (viewAt s t w) k n j
 
 abbrev μ-loop : tie.MeasureT-loop
 μ-loop s w t k text n from j₀ j = n - j

@@ -1,22 +1,15 @@
--- `sides::renumber` meets its contract: the loop holds the set of those roles of new that are passed.
+-- `sides::renumber` meets its contract: the loop holds the set of those roles of the map that are passed.
 use borrow.Author.Needs.{needs}
 use Prim.Native.Nat.{_-_}
-use Rattle.listings.specs.Listings.{listingOf}
 use Rattle.numbers.proofs.SideLines.{Renumbering, set-start, set-has, set-misses, set-lacks, set-all}
 use Rattle.numbers.proofs.sides.renumber.Statement.{statement}
 use Rattle.numbers.proofs.sides.renumber.Tie as tie
 
 abbrev Inv-loop : tie.InvT-loop
-Inv-loop new wn s w map set n own out₀ i₀ out i = Renumbering (listingOf new .roles) (listingOf s .roles) set n i out
+Inv-loop map n own set out₀ i₀ out i = Renumbering map own set n i out
 
 abbrev μ-loop : tie.MeasureT-loop
-μ-loop new wn s w map set n own out₀ i₀ out i = n - i
-
-role-count-requires : tie.Need-role-count-requires Inv-loop μ-loop
-role-count-requires c κs = search needs
-
-role-count-requires-2 : tie.Need-role-count-requires-2 Inv-loop μ-loop
-role-count-requires-2 c κs = search needs
+μ-loop map n own set out₀ i₀ out i = n - i
 
 loop-holds : tie.Need-loop-holds Inv-loop μ-loop
 loop-holds c = search (needs, set-start)
@@ -75,8 +68,6 @@ renumber-spec =
     (tie.spec
     Inv-loop
     μ-loop
-    role-count-requires
-    role-count-requires-2
     loop-holds
     add-next
     mul-wide

@@ -1,7 +1,7 @@
 -- `stems::fill_stems` meets its contract: one stem more at each turn.
 use borrow.Author.Needs.{needs}
 use Prim.Native.Nat.{_-_}
-use Rattle.numbers.proofs.StemsPut.{StemmingTo, stems-start, stems-more, stems-all}
+use Rattle.numbers.proofs.StemsPut.{StemmingTo, stems-start, stem-there, stems-more, stems-all}
 use Rattle.numbers.proofs.stems.fill_stems.Statement.{statement}
 use Rattle.numbers.proofs.stems.fill_stems.Tie as tie
 
@@ -33,7 +33,7 @@ part-stem-at-end-2 : tie.Need-part-stem-at-end-2 Inv-loop μ-loop
 part-stem-at-end-2 c = search needs
 
 stem-at-requires : tie.Need-stem-at-requires Inv-loop μ-loop
-stem-at-requires c κs = (search needs, search needs)
+stem-at-requires c κs = (search needs, search (needs, stem-there))
 
 put-stem-requires : tie.Need-put-stem-requires Inv-loop μ-loop
 put-stem-requires c κs = search needs

@@ -1,5 +1,5 @@
 use borrow.Author.Needs.{needs}
-use Rattle.reading.specs.Tables.{closedAt}
+use Rattle.reading.specs.Fillings.{closedAt}
 use Rattle.text.proofs.Truths.{ladder}
 use Rattle.reading.proofs.reader.closed.Statement.{statement}
 use Rattle.reading.proofs.reader.closed.Tie as tie

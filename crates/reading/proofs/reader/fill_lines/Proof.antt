@@ -8,7 +8,7 @@ use Rattle.reading.proofs.reader.fill_lines.Reads as reads
 use Rattle.reading.proofs.reader.fill_lines.Lts as lts
 use Rattle.reading.proofs.reader.closed.Reads as closed-reads
 use Rattle.reading.proofs.reader.line.Reads as line-reads
-use Rattle.reading.proofs.tables.Tally.start.Reads as start-reads
+use Rattle.entries.proofs.tables.Tally.start.Reads as start-reads
 
 abbrev Inv-loop : tie.InvT-loop
 Inv-loop table s w₀ at t₀ c₀ w t c = Walking s at w₀ w t c

@@ -41,13 +41,14 @@ use denote.Triple.Table.{entered, cited}
 use denote.Triple.Walked.{says, needs, Stays, stay-none-slice, gave-slice, walkOf, goes-none-slice, goes-gave-slice, Walks, ends-at, walked, walk-meets}
 use denote.Exit.{yes}
 use denote.Triple.Clauses.{ensured, lasts}
-use Rattle.reading.specs.Room.{listingRoom}
-use Rattle.reading.specs.Tables.{FillOutcome}
+use Rattle.entries.specs.Room.{listingRoom}
+use Rattle.reading.specs.Fillings.{FillOutcome}
 use Rattle.reading.specs.Readers.{behindFirst, fillingFrom, standingAt}
 use Rattle.reading.specs.declared.reader.Reader.{Reader}
 use Rattle.reading.specs.declared.reader.Loaded.{Loaded}
 use Rattle.reading.proofs.Tokens.{tokens}
-use Rattle.reading.proofs.Loads.{ready-behind, load-read}
+use Rattle.reading.proofs.Loads.{ready-behind}
+use Rattle.reading.proofs.Holdings.{load-read}
 use Rattle.reading.proofs.reader.Reader as T
 use Rattle.reading.proofs.reader.Reader.Laws as T′
 use Rattle.reading.proofs.reader.Loaded as S

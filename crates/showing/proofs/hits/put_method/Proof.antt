@@ -122,7 +122,15 @@ same-length-3 : tie.Need-same-length-3
 same-length-3 c = search needs
 
 returns-3 : tie.Need-returns-3
-returns-3 c = (search (needs, filler-place), search (needs, filler-bytes))
+returns-3 c =
+    let put = c .before .before .put-numbered .ensures in
+    let number = c .before .before .before .before in
+    let past-old = number .before .before .before in
+    let past-new = past-old .before .before .before .before .before in
+    let start = past-new .before .before .before .before .before .before .before .before .before .before .before in
+    let named = filler-place _ _ _ _ (start .pre .0) _ (start .pre .1 .0) _ _ _ _ _ (past-new .before .before .before .wide .ensures) (past-new .before .method-count .ensures) (past-new .if1 .left) (past-old .before .before .before .wide2 .ensures) (past-old .before .method-count2 .ensures) (past-old .if2 .left) (number .method-number .ensures) in
+    let written = filler-bytes _ _ _ _ (start .pre .0) _ (start .pre .1 .0) _ _ _ _ _ (past-new .before .before .before .wide .ensures) (past-new .before .method-count .ensures) (past-new .if1 .left) (past-old .before .before .before .wide2 .ensures) (past-old .before .method-count2 .ensures) (past-old .if2 .left) (number .method-number .ensures) in
+    (named _ _ (put .0), written _ _ _ (put .1))
 
 pub put-method-spec : {M : Type 1} → statement M
 put-method-spec =

@@ -1,7 +1,7 @@
 -- `paths::put_stem` meets its contract, kind by kind.
 use borrow.Author.Needs.{needs}
-use Rattle.deciding.proofs.Calls.{lent-length}
-use Rattle.deciding.proofs.Matchings.{ended-long}
+use Rattle.worktable.proofs.Lent.{lent-length}
+use Rattle.matching.proofs.Matchings.{ended-long}
 use Rattle.showing.proofs.StemPaths.{root-short, tail-short, head-short, text-short, empty-place, empty-bytes, default-place, default-bytes, starred-place, starred-bytes, prefix-place, prefix-bytes, exact-place, exact-bytes}
 use Rattle.showing.proofs.paths.put_stem.Statement.{statement}
 use Rattle.showing.proofs.paths.put_stem.Tie as tie

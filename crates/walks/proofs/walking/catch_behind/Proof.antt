@@ -4,32 +4,23 @@ use Rattle.walks.proofs.Walkings.{behind-judged}
 use Rattle.walks.proofs.walking.catch_behind.Statement.{statement}
 use Rattle.walks.proofs.walking.catch_behind.Tie as tie
 
-in-new-requires : tie.Need-in-new-requires
-in-new-requires c κs = search needs
-
-in-new-requires-2 : tie.Need-in-new-requires-2
-in-new-requires-2 c κs = search needs
-
-line-behind-requires : tie.Need-line-behind-requires
-line-behind-requires c κs = search needs
-
 in-old-requires : tie.Need-in-old-requires
 in-old-requires c κs = search needs
 
 in-old-requires-2 : tie.Need-in-old-requires-2
 in-old-requires-2 c κs = search needs
 
+line-behind-requires : tie.Need-line-behind-requires
+line-behind-requires c κs = search needs
+
+in-new-requires : tie.Need-in-new-requires
+in-new-requires c κs = search needs
+
+in-new-requires-2 : tie.Need-in-new-requires-2
+in-new-requires-2 c κs = search needs
+
 line-behind-requires-2 : tie.Need-line-behind-requires-2
 line-behind-requires-2 c κs = search needs
-
-sub-new : tie.Need-sub-new
-sub-new c = search needs
-
-part-new-start : tie.Need-part-new-start
-part-new-start c = search needs
-
-part-new-end : tie.Need-part-new-end
-part-new-end c = search needs
 
 sub-old : tie.Need-sub-old
 sub-old c = search needs
@@ -39,6 +30,15 @@ part-old-start c = search needs
 
 part-old-end : tie.Need-part-old-end
 part-old-end c = search needs
+
+sub-new : tie.Need-sub-new
+sub-new c = search needs
+
+part-new-start : tie.Need-part-new-start
+part-new-start c = search needs
+
+part-new-end : tie.Need-part-new-end
+part-new-end c = search needs
 
 sub-pairs : tie.Need-sub-pairs
 sub-pairs c = search needs
@@ -59,18 +59,18 @@ pub catch-behind-spec : {M : Type 1} → statement M
 catch-behind-spec =
     tie.close
     (tie.spec
-    in-new-requires
-    in-new-requires-2
-    line-behind-requires
     in-old-requires
     in-old-requires-2
+    line-behind-requires
+    in-new-requires
+    in-new-requires-2
     line-behind-requires-2
-    sub-new
-    part-new-start
-    part-new-end
     sub-old
     part-old-start
     part-old-end
+    sub-new
+    part-new-start
+    part-new-end
     sub-pairs
     part-pairs-start
     part-pairs-end
