@@ -1,6 +1,7 @@
 # make            the archive, the command and the test programs
 # make check      the project's own tests, without the prover's
-# make install    header, archive, pkg-config file, command, man page and completion, below DESTDIR and PREFIX; make uninstall
+# make install    header, archive, shared library, pkg-config file, command, manual and completion, below DESTDIR and PREFIX; make uninstall
+# make dist       the same as a tarball and a Debian package in build/, for people without the kit
 # make sharp      wrong variants of the second implementation, each to be told apart: docs/SHARPNESS.md; some minutes
 # make gateway    the gateway example; make check-gateway tests it alone
 # make programs   the proved compare program on the cases of tests/compare
@@ -14,15 +15,31 @@ SOAK ?= 3000000
 PREFIX ?= /usr/local
 VERSION = $(shell sed -n 's/.*BUDQUARRY_VERSION "\(.*\)"/\1/p' include/budquarry.h)
 CRATES = text worktable writing limits names listings decisions entries reading matching callers deciding trials fillers grants numbers walks showing comparisons comparing library
-COMMAND = command/budquarry.c command/words.c
+PARTS = command/comparing.c command/json.c command/accept.c command/words.c command/causes.c command/warnings.c command/widenings.c command/listing.c command/showing.c
+COMMAND = command/budquarry.c $(PARTS)
+
+ABI = 1
+SHARED = libbudquarry.so.$(ABI)
 
 all: build/budquarry build/agree build/stack build/calls
 
-# The proved archive. rt proves before it builds.
-build/libbudquarry.a: $(shell find $(CRATES:%=crates/%) -name '*.rt' -o -name '*.antt') crates.txt
+# The proved archive, as it comes. rt proves before it builds.
+build/proved.a: $(shell find $(CRATES:%=crates/%) -name '*.rt' -o -name '*.antt') crates.txt
+	@tools/prove $@
+# What C links: the proved calls, and beside them which version they are.
+build/version.o: library/version.c include/budquarry.h
 	mkdir -p build
-	rt staticlib library >build/library.log 2>&1 || { tail -n 20 build/library.log; exit 1; }
-	cp target/staticlib/liblibrary.a $@
+	$(X86) cc $(WARN) -O2 -fPIC -c $< -o $@
+build/libbudquarry.a: build/proved.a build/version.o
+	cp build/proved.a $@.new
+	$(X86) ar rs $@.new build/version.o
+	mv $@.new $@
+build/$(SHARED): build/libbudquarry.a
+	$(X86) cc -shared -Wl,-soname,$(SHARED) -Wl,-z,defs,-z,now -Wl,--whole-archive $< -Wl,--no-whole-archive -o $@
+# The command up to its first call of the library: what `./budquarry` answers with before anything is proved. Made whole at once, for two may be at it.
+build/front: $(COMMAND) $(wildcard command/*.h) include/budquarry.h library/version.c tools/front.c
+	mkdir -p build
+	$(X86) cc $(WARN) -O2 -static $(COMMAND) library/version.c tools/front.c -o $@.$$$$ && mv $@.$$$$ $@
 
 build/second.o: second/second.c second/second.h
 	mkdir -p build
@@ -40,10 +57,10 @@ build/decide_edges: second/decide_edges.c build/second.o
 	$(X86) cc $(WARN) -O2 -static $^ -o $@
 build/compare_runs: second/compare_runs.c build/second.o
 	$(X86) cc $(WARN) -O2 -static $^ -o $@
-build/budquarry: $(COMMAND) command/words.h include/budquarry.h build/libbudquarry.a
+build/budquarry: $(COMMAND) $(wildcard command/*.h) include/budquarry.h build/libbudquarry.a
 	$(X86) cc $(WARN) -O2 -static $(COMMAND) build/libbudquarry.a -o $@
 # the same with the sanitizers, on x86-64 alone; `tests/command build/sanitized` runs it
-build/sanitized: $(COMMAND) command/words.h include/budquarry.h build/libbudquarry.a
+build/sanitized: $(COMMAND) $(wildcard command/*.h) include/budquarry.h build/libbudquarry.a
 	$(X86) cc $(WARN) -g -fsanitize=address,undefined -fno-sanitize-recover=all $(COMMAND) build/libbudquarry.a -o $@
 build/agree: tests/agree.c include/budquarry.h build/second.o build/yardstick.o build/generate.o build/libbudquarry.a
 	$(X86) cc $(WARN) -O2 -static tests/agree.c build/second.o build/yardstick.o build/generate.o build/libbudquarry.a -o $@
@@ -51,8 +68,18 @@ build/second_agree: second/agree.c build/second.o build/yardstick.o build/genera
 	$(X86) cc $(WARN) -O2 -static $^ -o $@
 build/typed: tests/typed.c include/budquarry.h build/second.o build/libbudquarry.a
 	$(X86) cc $(WARN) -O2 -static tests/typed.c build/second.o build/libbudquarry.a -o $@
+build/widenings: tests/widenings.c $(PARTS) $(wildcard command/*.h) include/budquarry.h build/second.o build/generate.o build/libbudquarry.a
+	$(X86) cc $(WARN) -O2 -static tests/widenings.c $(PARTS) build/second.o build/generate.o build/libbudquarry.a -o $@
+build/causes: tests/causes.c $(PARTS) $(wildcard command/*.h) include/budquarry.h build/generate.o build/libbudquarry.a
+	$(X86) cc $(WARN) -O2 -static tests/causes.c $(PARTS) build/generate.o build/libbudquarry.a -o $@
 build/seam: tests/seam.c include/budquarry.h build/libbudquarry.a
 	$(X86) cc $(WARN) -O2 -static tests/seam.c build/libbudquarry.a -o $@
+# the header's first example, as it stands in its comment
+build/example.h: include/budquarry.h
+	mkdir -p build
+	sed -n '/^ \*     int may/,/^ \*     }/ s/^ \*     //p' $< >$@
+build/threads: tests/threads.c build/example.h include/budquarry.h build/libbudquarry.a
+	$(X86) cc $(WARN) -O2 -static -Ibuild tests/threads.c build/libbudquarry.a -pthread -o $@
 build/properties: tests/properties.c build/second.o build/generate.o
 	$(X86) cc $(WARN) -O2 -static $^ -o $@
 
@@ -82,28 +109,38 @@ build/calls: bench/calls.c bench/grown.h $(INPUTS) build/generate.o $(YARDSTICKS
 
 # Linked to Debian's libmicrohttpd, so not static. The checked one stops at a bad access, and at the end at a leak; it needs x86-64 itself.
 CHECKED = $(if $(filter x86_64,$(shell uname -m)),build/gateway_checked)
-build/gateway: gateway/gateway.c include/budquarry.h build/libbudquarry.a
+GATEWAY = $(addprefix gateway/,gateway.c seats.c head.c users.c rules.c files.c log.c)
+build/gateway: $(GATEWAY) gateway/gateway.h include/budquarry.h build/libbudquarry.a
 	$(X86) library microhttpd microhttpd.h libmicrohttpd-dev
-	$(X86) cc $(WARN) -O2 gateway/gateway.c build/libbudquarry.a -lmicrohttpd -pthread -o $@
+	$(X86) cc $(WARN) -O2 $(GATEWAY) build/libbudquarry.a -lmicrohttpd -pthread -o $@
 build/gateway_checked: build/gateway
-	$(X86) cc $(WARN) -g -O1 -fsanitize=address,undefined -fno-sanitize-recover=all gateway/gateway.c build/libbudquarry.a -lmicrohttpd -pthread -o $@
+	$(X86) cc $(WARN) -g -O1 -fsanitize=address,undefined -fno-sanitize-recover=all $(GATEWAY) build/libbudquarry.a -lmicrohttpd -pthread -o $@
 build/gateway_client: tests/gateway_client.c include/budquarry.h build/libbudquarry.a
 	$(X86) cc $(WARN) -O2 -static tests/gateway_client.c build/libbudquarry.a -o $@
+# the part that holds passwords, by itself; behind build/gateway, which sees to MHD's header
+SECRET = tests/gateway_secret.c $(addprefix gateway/,users.c rules.c files.c log.c)
+build/gateway_secret: $(SECRET) build/gateway
+	$(X86) cc $(WARN) -O2 -static $(SECRET) build/libbudquarry.a -pthread -o $@
 
 gateway: build/gateway
-check-gateway: build/gateway $(CHECKED) build/gateway_client build/budquarry
+check-gateway: build/gateway $(CHECKED) build/gateway_client build/gateway_secret build/budquarry
 	tests/gateway build/gateway $(CHECKED)
 
 # The tests, in parts that two jobs run side by side: the second implementation by itself while the archive is proved, the rest behind it.
-check: check-second check-command check-calls check-here programs
+check: check-second check-command check-calls check-package check-here programs
 
 check-second: build/second_agree build/properties build/edges build/decide_edges
 	tests/stored
 	$(X86) run build/second_agree 0 1 large >build/second_agree.out || { cat build/second_agree.out; exit 1; }
 	$(X86) run build/properties 1 20000
 	$(X86) run build/properties $(SEED) 4000
-check-command: build/budquarry
+check-command: build/budquarry build/widenings build/causes
 	tests/command
+	tests/terminal
+	tests/json
+	$(X86) run build/causes 1 20000
+	$(X86) run build/widenings 1 3000
+	$(X86) run build/widenings $(SEED) 500
 	tests/install
 check-calls: build/agree build/typed build/seam build/stack
 	$(X86) run build/seam
@@ -111,14 +148,22 @@ check-calls: build/agree build/typed build/seam build/stack
 	$(X86) run build/agree 1 100000
 	$(X86) run build/agree $(SEED) 20000
 	$(X86) run build/stack
+# the first run, the scripts, the package, and the header's example in threads
+check-package: build/budquarry build/$(SHARED) build/threads
+	tests/first
+	tests/scripts
+	tests/package
+	$(X86) run build/threads
 # alone, behind the others: it measures what it does under load
-check-here: check-command check-calls programs
+check-here: check-command check-calls check-package programs
 	if $(X86) need curl curl && $(X86) need ab apache2-utils && $(X86) library microhttpd microhttpd.h libmicrohttpd-dev; \
 		then $(MAKE) --no-print-directory check-gateway; else echo "gateway: not tried, for want of the packages above"; fi
 
 # What the tests need of Debian, one after the other: two jobs at once would stand in each other's way.
 needs: build/second.o
 	$(X86) need pkg-config pkg-config
+	$(X86) need script bsdutils
+	$(X86) need jq jq
 	for package in curl:curl ab:apache2-utils; do $(X86) need $${package%:*} $${package#*:} || :; done
 	$(X86) library microhttpd microhttpd.h libmicrohttpd-dev || :
 
@@ -138,22 +183,46 @@ bench: build/calls build/stack
 growth: build/calls
 	bench/growth
 
+# LIBDIR and ZSHDIR for a system that has its own places for them; PCPREFIX is what the pkg-config file calls the prefix.
+LIBDIR = $(PREFIX)/lib
+ZSHDIR = $(PREFIX)/share/zsh/site-functions
+DOCDIR = $(PREFIX)/share/doc/budquarry
+PCPREFIX = $(PREFIX)
 ROOT = $(DESTDIR)$(PREFIX)
-install: build/budquarry
-	sed -e 's|@PREFIX@|$(PREFIX)|' -e 's|@VERSION@|$(VERSION)|' budquarry.pc.in >build/budquarry.pc
+LIBS = $(DESTDIR)$(LIBDIR)
+DOCS = $(DESTDIR)$(DOCDIR)
+EXAMPLES = link.c old.txt new.txt portal.txt
+# An empty or relative PREFIX would mean this folder, and so would its own name: its header is not to be written over, nor taken away.
+ROOTED = case "$(PREFIX)" in /*) ;; *) echo "PREFIX must be a path that starts with /, and is '$(PREFIX)'" >&2; exit 2 ;; esac; \
+	[ ! include -ef "$(ROOT)/include" ] || { echo "PREFIX must be another folder than this one, and is '$(PREFIX)'" >&2; exit 2; }
+install: build/budquarry build/$(SHARED)
+	@$(ROOTED)
 	install -D -m 644 include/budquarry.h "$(ROOT)/include/budquarry.h"
-	install -D -m 644 build/libbudquarry.a "$(ROOT)/lib/libbudquarry.a"
-	install -D -m 644 build/budquarry.pc "$(ROOT)/lib/pkgconfig/budquarry.pc"
+	install -D -m 644 build/libbudquarry.a "$(LIBS)/libbudquarry.a"
+	install -D -m 644 build/$(SHARED) "$(LIBS)/$(SHARED)"
+	ln -sf $(SHARED) "$(LIBS)/libbudquarry.so"
+	install -D -m 644 budquarry.pc.in "$(LIBS)/pkgconfig/budquarry.pc"
+	sed -i -e 's|@PREFIX@|$(PCPREFIX)|' -e 's|@LIBDIR@|$(LIBDIR:$(PREFIX)/%=$${prefix}/%)|' -e 's|@VERSION@|$(VERSION)|' "$(LIBS)/pkgconfig/budquarry.pc"
 	install -D -m 755 build/budquarry "$(ROOT)/bin/budquarry"
 	install -D -m 644 man/budquarry.1 "$(ROOT)/share/man/man1/budquarry.1"
+	install -D -m 644 man/budquarry-listing.5 "$(ROOT)/share/man/man5/budquarry-listing.5"
 	install -D -m 644 completion/budquarry.bash "$(ROOT)/share/bash-completion/completions/budquarry"
-	install -D -m 644 completion/_budquarry "$(ROOT)/share/zsh/site-functions/_budquarry"
+	install -D -m 644 completion/_budquarry "$(DESTDIR)$(ZSHDIR)/_budquarry"
+	install -D -m 644 -t "$(DOCS)" README.md CHANGELOG.md
+	install -D -m 644 -t "$(DOCS)/examples" $(EXAMPLES:%=examples/%)
 
 uninstall:
-	cd "$(ROOT)" && rm -f include/budquarry.h lib/libbudquarry.a lib/pkgconfig/budquarry.pc bin/budquarry share/man/man1/budquarry.1 \
-		share/bash-completion/completions/budquarry share/zsh/site-functions/_budquarry
+	@$(ROOTED)
+	rm -f "$(ROOT)/include/budquarry.h" "$(LIBS)/libbudquarry.a" "$(LIBS)/$(SHARED)" "$(LIBS)/libbudquarry.so" "$(LIBS)/pkgconfig/budquarry.pc" \
+		"$(ROOT)/bin/budquarry" "$(ROOT)/share/man/man1/budquarry.1" "$(ROOT)/share/man/man5/budquarry-listing.5" \
+		"$(ROOT)/share/bash-completion/completions/budquarry" "$(DESTDIR)$(ZSHDIR)/_budquarry" \
+		"$(DOCS)/README.md" "$(DOCS)/CHANGELOG.md" $(EXAMPLES:%="$(DOCS)/examples/%")
+	for folder in "$(DOCS)/examples" "$(DOCS)"; do rmdir "$$folder" 2>/dev/null || :; done
+
+dist: build/budquarry build/$(SHARED)
+	tools/dist $(VERSION)
 
 clean:
 	rm -rf build
 
-.PHONY: all check check-second check-command check-calls check-here needs programs sharp gateway check-gateway soak bench growth install uninstall clean
+.PHONY: all check check-second check-command check-calls check-package check-here needs programs sharp gateway check-gateway soak bench growth install uninstall dist clean

@@ -5,28 +5,36 @@
 #include <signal.h>
 #include <stdint.h>
 #include <stdio.h>
+#include <stdlib.h>
 #include <string.h>
 #include <unistd.h>
-#include "words.h"
+#include "comparing.h"
+#include "json.h"
 
-/* exit status: no wider, granted or accepted; wider or denied; refused, or anything that went wrong */
+/* exit status: no wider, accepted or granted; wider, denied, or warned with --strict; refused, or anything that went wrong */
 enum { GOOD = 0, BAD = 1, FAILED = 2 };
 
 static const char usage[] =
-    "usage: budquarry compare OLD NEW\n"
+    "usage: budquarry compare [--all] [--accept FILE] OLD NEW\n"
     "       budquarry decide LISTING METHOD PATH [--login] [--role NAME]..\n"
     "       budquarry check LISTING\n"
     "       budquarry --help | --version\n"
     "\n"
     "compare  may anyone do more under the listing NEW than under OLD?\n"
     "decide   may this caller do this? (--role implies --login)\n"
-    "check    is the listing well formed?\n"
+    "check    is the listing well formed, and probably as meant?\n"
     "\n"
-    "A listing is a file, or - for standard input. --quiet leaves out the words on\n"
-    "standard error; -- ends the options. Standard output is the verdict, the\n"
-    "answer, accepted, or refused<tab>NUMBER<tab>SIDE<tab>LINE. Exit status: 0 no\n"
-    "wider, granted or accepted; 1 wider or denied; 2 refused, or a file or the\n"
-    "command line is at fault.\n";
+    "--all          compare lists all that is wider: where, which methods, for whom\n"
+    "--accept FILE  compare passes over what is in FILE, in lines as --all writes them\n"
+    "--strict       a warning of check or decide makes the exit status 1\n"
+    "--json         the answer as JSON\n"
+    "--quiet        no words on standard error\n"
+    "--             ends the options\n"
+    "\n"
+    "A listing is a file, or - for standard input. Standard output is the verdict,\n"
+    "the answer, accepted, or refused<tab>NUMBER<tab>SIDE<tab>LINE. Exit status: 0 no\n"
+    "wider, accepted or granted; 1 wider, denied, or warned with --strict; 2 refused,\n"
+    "or a file or the command line is at fault.\n";
 static const char version[] = "budquarry " BUDQUARRY_VERSION "\n";
 
 /* A role name has at most 64 bytes and a caller 32 of them. One byte and one name more are kept, so that a longer name and a caller with
@@ -35,81 +43,158 @@ enum { NAMES = 33, NAME = 65 };
 
 static struct command {
     const char *operand[4]; /* the verb first */
-    int operands, quiet;
+    int operands, quiet, all, strict, json;
+    const char *accept; /* the file of accepted widenings */
     uint32_t login;
     size_t names, names_len;
     uint8_t name[NAMES * (NAME + 1)];
 } command;
 
 static struct listing first, second;
-static uint32_t work[BUDQUARRY_WORK];
+static budquarry_work work;
 
 static int misused(const char *why, const char *what) {
-    fprintf(stderr, "budquarry: %s%s\n%s", why, what, usage);
+    fprintf(stderr, "budquarry: %s", why);
+    show_string(stderr, what);
+    fprintf(stderr, "\n%s", usage);
     return FAILED;
 }
 
-/* Hands the answer over before any words about it. */
-static int answered(const void *text, size_t len) {
-    if (fwrite(text, 1, len, stdout) == len && !fflush(stdout)) return 1;
-    perror("budquarry: standard output");
-    return 0;
-}
-
 static int refused(uint32_t number, uint32_t side, uint32_t line) {
-    char text[64];
-    const char *old = command.operands == 3 ? "old listing" : "listing";
-    int len = snprintf(text, sizeof text, "refused\t%u\t%u\t%u\n", number, side, line);
-    if (answered(text, (size_t)len) && !command.quiet)
-        say_refusal(number, line, side == 2 ? "new listing" : side == 1 ? old : NULL, side == 2 ? &second : &first);
+    struct refusal refusal = {.number = number, .side = side, .line = line, .listing = side == 2 ? &second : &first};
+    refusal.which = side == 2 ? "new listing" : command.operands == 3 ? "old listing" : "listing";
+    refusal.method = command.operand[2];
+    refusal.path = command.operand[3];
+    refusal.roles = (struct text){command.name, command.names_len};
+    if (command.json) {
+        printf("{\"command\":\"%s\",", command.operand[0]);
+        json_refusal(stdout, &refusal);
+        fputs("}\n", stdout);
+    } else {
+        printf("refused\t%u\t%u\t%u\n", number, side, line);
+    }
+    if (handed_over() && !command.quiet) say_refusal(&refusal);
     return FAILED;
 }
 
 /* A file that can't be read is an error here, so that nobody takes it for an empty listing. */
+static int read_on(int file, uint8_t *to, size_t room, size_t *len) {
+    ssize_t got = 1;
+    while (got > 0 && *len < room) {
+        got = read(file, to + *len, room - *len);
+        if (got > 0) *len += (size_t)got;
+    }
+    return got >= 0;
+}
+
+static int unreadable(const char *name) {
+    const char *why = strerror(errno);
+    fputs("budquarry: ", stderr);
+    show_string(stderr, name);
+    fprintf(stderr, ": %s\n", why);
+    return 0;
+}
+
+static int open_named(const char *name) { return strcmp(name, "-") ? open(name, O_RDONLY) : STDIN_FILENO; }
+
+/* Also descriptor 0, which a file gets where standard input is closed. */
+static void close_named(const char *name, int file) {
+    if (strcmp(name, "-")) close(file);
+}
+
 static int load(struct listing *listing, const char *name) {
-    int opens = strcmp(name, "-") != 0, file = opens ? open(name, O_RDONLY) : STDIN_FILENO;
-    ssize_t got = file < 0 ? -1 : 1;
+    int file = open_named(name);
     listing->name = name;
-    while (got > 0 && listing->len < sizeof listing->bytes) {
-        got = read(file, listing->bytes + listing->len, sizeof listing->bytes - listing->len);
-        if (got > 0) listing->len += (size_t)got;
-    }
-    if (got < 0) {
-        fprintf(stderr, "budquarry: %s: %s\n", name, strerror(errno));
-        return 0;
-    }
-    if (opens) close(file); /* also as descriptor 0, which it gets where standard input is closed */
+    if (file < 0 || !read_on(file, listing->bytes, sizeof listing->bytes, &listing->len)) return unreadable(name);
+    close_named(name, file);
     return 1;
+}
+
+/* A file of any length. */
+static int load_all(struct text *text, const char *name) {
+    int file = open_named(name);
+    uint8_t *bytes = NULL;
+    size_t room = 0, len = 0;
+    do {
+        room = 2 * room + 4096;
+        uint8_t *more = file < 0 ? NULL : realloc(bytes, room);
+        if (!more || !read_on(file, more, room, &len)) return unreadable(name);
+        bytes = more;
+    } while (len == room);
+    close_named(name, file);
+    *text = (struct text){bytes, len};
+    return 1;
+}
+
+static void count_warning(const struct listing *listing, const struct warning *warning) { (void)listing, (void)warning; }
+
+static void write_warning(const struct listing *listing, const struct warning *warning) {
+    static int written;
+    (void)listing;
+    if (written++) putchar(',');
+    json_warning(stdout, warning);
 }
 
 static int check(void) {
     if (!load(&first, command.operand[1])) return FAILED;
     struct budquarry_report r = budquarry_read(first.bytes, first.len, work, BUDQUARRY_WORK);
     if (r.number) return refused(r.number, r.side, r.line);
-    return answered("accepted\n", 9) ? GOOD : FAILED;
+    if (command.json) {
+        fputs("{\"command\":\"check\"", stdout);
+        json_member(stdout, "listing", text_of(first.name));
+        fputs(",\"accepted\":true,\"warnings\":[", stdout);
+        warn(&first, write_warning);
+        fputs("]}\n", stdout);
+    } else {
+        fputs("accepted\n", stdout);
+    }
+    if (!handed_over()) return FAILED;
+    return warn(&first, command.quiet ? count_warning : say_warning) && command.strict ? BAD : GOOD;
+}
+
+static void write_decision(const char *answer, int granted) {
+    fputs("{\"command\":\"decide\"", stdout);
+    json_member(stdout, "listing", text_of(first.name));
+    json_member(stdout, "method", text_of(command.operand[2]));
+    json_member(stdout, "path", text_of(command.operand[3]));
+    json_member(stdout, "answer", text_of(answer));
+    printf(",\"granted\":%s,\"warnings\":[", granted ? "true" : "false");
+    warn_path(text_of(command.operand[3]), write_warning);
+    fputs("]}\n", stdout);
 }
 
 static int decide(void) {
-    static const char *const answers[] = {"", "open\n", "by role\n", "closed\n", "login wanted\n", "role lacking\n"};
+    static const char *const answers[] = {"", "open", "by role", "closed", "login wanted", "role lacking"};
     const char *method = command.operand[2], *path = command.operand[3];
     if (!load(&first, command.operand[1])) return FAILED;
     struct budquarry_decision d = budquarry_decide(first.bytes, first.len, (const uint8_t *)path, strlen(path), (const uint8_t *)method,
                                                    strlen(method), command.login, command.name, command.names_len, work, BUDQUARRY_WORK);
     if (d.number) return refused(d.number, d.side, d.line);
-    if (!answered(answers[d.answer], strlen(answers[d.answer]))) return FAILED;
-    return d.answer == BUDQUARRY_OPEN || d.answer == BUDQUARRY_BY_ROLE ? GOOD : BAD;
+    int granted = d.answer == BUDQUARRY_OPEN || d.answer == BUDQUARRY_BY_ROLE;
+    if (command.json)
+        write_decision(answers[d.answer], granted);
+    else
+        printf("%s\n", answers[d.answer]);
+    if (!handed_over()) return FAILED;
+    if (warn_path(text_of(path), command.quiet ? count_warning : say_warning) && command.strict) return BAD;
+    return granted ? GOOD : BAD;
 }
 
 static int compare(void) {
     static uint8_t answer[BUDQUARRY_ANSWER];
-    if (!strcmp(command.operand[1], "-") && !strcmp(command.operand[2], "-")) return misused("only one listing can be standard input", "");
+    static struct acceptance acceptance, *accepting;
+    int inputs = !strcmp(command.operand[1], "-") + !strcmp(command.operand[2], "-") + (command.accept && !strcmp(command.accept, "-"));
+    if (inputs > 1) return misused("only one file can be standard input", "");
     if (!load(&first, command.operand[1]) || !load(&second, command.operand[2])) return FAILED;
+    if (command.accept) {
+        accepting = &acceptance;
+        acceptance.name = strcmp(command.accept, "-") ? command.accept : "standard input";
+        if (!load_all(&acceptance.bytes, command.accept) || !cut_acceptance(accepting)) return FAILED;
+    }
     struct budquarry_comparison c =
         budquarry_compare(first.bytes, first.len, second.bytes, second.len, answer, sizeof answer, work, BUDQUARRY_WORK);
     if (c.number) return refused(c.number, c.side, c.line);
-    if (!answered(answer, c.length)) return FAILED;
-    if (!command.quiet) say_verdict(&first, &second, answer, c.length);
-    return c.length == BUDQUARRY_NO_WIDER ? GOOD : BAD;
+    return report_comparison(&(struct comparing){&first, &second, accepting, command.all, command.json, command.quiet}, (struct text){answer, c.length});
 }
 
 /* A byte 10 in a name would make two of it; byte 127 is as wrong in a name and doesn't. */
@@ -131,6 +216,16 @@ static int read_arguments(int argc, char **argv) {
             options = 0;
         } else if (!strcmp(argv[i], "--quiet")) {
             command.quiet = 1;
+        } else if (!strcmp(argv[i], "--all")) {
+            command.all = 1;
+        } else if (!strcmp(argv[i], "--json")) {
+            command.json = 1;
+        } else if (!strcmp(argv[i], "--accept")) {
+            if (++i == argc) return misused("a file must follow --accept", "");
+            if (command.accept) return misused("only one file can be accepted: ", argv[i]);
+            command.accept = argv[i];
+        } else if (!strcmp(argv[i], "--strict")) {
+            command.strict = 1;
         } else if (!strcmp(argv[i], "--login")) {
             command.login = 1;
         } else if (!strcmp(argv[i], "--role")) {
@@ -143,20 +238,41 @@ static int read_arguments(int argc, char **argv) {
     return GOOD;
 }
 
+static int told(const char *text) {
+    fputs(text, stdout);
+    return handed_over();
+}
+
+/* Whether it is asked how to call the command: alone, or behind a verb and nothing else. */
+static int asks_help(int argc, char **argv) {
+    const char *last = argc > 1 ? argv[argc - 1] : "";
+    if (argc == 2 && !strcmp(last, "help")) return 1;
+    if (argc == 3 && strcmp(argv[1], "compare") && strcmp(argv[1], "decide") && strcmp(argv[1], "check")) return 0;
+    return argc <= 3 && (!strcmp(last, "--help") || !strcmp(last, "-h"));
+}
+
+/* A status of 0 must not come of a listing's name that looks like an option: so `check --help` has none. */
+static int help(int argc, char **argv) {
+    int good = argc == 2 || strcmp(argv[1], "check");
+    return told(usage) && good ? GOOD : FAILED;
+}
+
 static int run(int argc, char **argv) {
     static const struct verb {
         const char *name;
         int operands, asks_caller, (*run)(void);
     } verbs[] = {{"compare", 3, 0, compare}, {"decide", 4, 1, decide}, {"check", 2, 0, check}};
-    /* Only alone: a status of 0 must not come of a listing's name that looks like an option. */
-    if (argc == 2 && !strcmp(argv[1], "--help")) return answered(usage, strlen(usage)) ? GOOD : FAILED;
-    if (argc == 2 && !strcmp(argv[1], "--version")) return answered(version, strlen(version)) ? GOOD : FAILED;
+    if (asks_help(argc, argv)) return help(argc, argv);
+    if (argc == 2 && !strcmp(argv[1], "--version")) return told(version) ? GOOD : FAILED;
     if (read_arguments(argc, argv)) return FAILED;
     if (!command.operands) return misused("nothing to do", "");
     for (size_t i = 0; i < sizeof verbs / sizeof *verbs; i++) {
         if (strcmp(command.operand[0], verbs[i].name)) continue;
         if (command.operands != verbs[i].operands) return misused("wrong number of arguments for ", verbs[i].name);
         if (command.login && !verbs[i].asks_caller) return misused("--login and --role are for decide, not for ", verbs[i].name);
+        if (command.strict && verbs[i].run == compare) return misused("--strict is for check and decide, not for ", verbs[i].name);
+        if (command.accept && verbs[i].run != compare) return misused("--accept is for compare, not for ", verbs[i].name);
+        if (command.all && verbs[i].run != compare) return misused("--all is for compare, not for ", verbs[i].name);
         return verbs[i].run();
     }
     return misused("no such command: ", command.operand[0]);

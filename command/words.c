@@ -1,93 +1,86 @@
 /* words.c: see words.h. */
-#include <stdio.h>
 #include <string.h>
 #include "words.h"
 
-enum { LONGEST_SHOWN = 300 }; /* bytes of a line; every line that can be right is shorter */
+enum { MOST_EXCEPTED = 8 }; /* methods that a sentence names; more of them are only counted */
 
-struct text {
-    const uint8_t *at;
-    size_t len;
-};
-
-static struct text text_of(const char *s) { return (struct text){(const uint8_t *)s, strlen(s)}; }
-
-/* A listing's own bytes must not drive the reader's terminal, and 01 gives the bytes above 126 no alphabet: those are shown by number. */
-static void show(struct text t) {
-    for (size_t i = 0; i < t.len; i++) {
-        if (t.at[i] == '\t')
-            fputs("<tab>", stderr);
-        else if (t.at[i] < 32 || t.at[i] > 126)
-            fprintf(stderr, "\\x%02x", t.at[i]);
-        else
-            putc(t.at[i], stderr);
-    }
+static void tell(const struct words *w) {
+    show(stderr, said(w));
+    putc('\n', stderr);
 }
 
-/* Takes the first line off a text; the line comes without its byte 10. */
-static struct text take_line(struct text *rest) {
-    const uint8_t *end = rest->len ? memchr(rest->at, '\n', rest->len) : NULL;
-    struct text line = {rest->at, end ? (size_t)(end - rest->at) : rest->len};
-    size_t taken = line.len + (end != NULL);
-    *rest = (struct text){rest->at + taken, rest->len - taken};
-    return line;
+/* The answer's next line without its name; 01 fixes the names and their order. */
+static struct text take_field(struct text *answer, const char *name) { return behind(take_line(answer), strlen(name) + 1); }
+
+struct request shown_request(struct text answer) {
+    struct request q = {.role = text_of("")};
+    take_line(&answer);
+    q.path = take_field(&answer, "path");
+    q.method = take_field(&answer, "method");
+    if (!same(answer, text_of("caller\tnone\n"))) q.role = take_field(&answer, "caller\trole");
+    return q;
 }
 
-static int is_same(struct text a, struct text b) { return a.len == b.len && !memcmp(a.at, b.at, a.len); }
+void say_no_wider(void) { fputs("NO WIDER: nobody may do anything under the new listing that the old listing denies.\n", stderr); }
 
-static int is_inside(struct text inner, struct text outer) {
-    for (size_t i = 0; i + inner.len <= outer.len; i++)
-        if (!memcmp(outer.at + i, inner.at, inner.len)) return 1;
-    return 0;
+/* A method that people know and neither listing names. */
+static struct text example_method(const struct trials *t) {
+    static const char *const known[] = {"POST", "PUT", "DELETE", "PATCH", "GET", "HEAD", "OPTIONS"};
+    for (size_t i = 0; i < sizeof known / sizeof *known; i++)
+        if (find_text(t->method, t->filler_method, text_of(known[i])) == t->filler_method) return text_of(known[i]);
+    return t->method[t->filler_method];
 }
 
-/* Whether a line `record<tab>FIELD` of the accepted listing has a FIELD that the text fits in the given way. */
-static int has_field(const struct listing *l, const char *record, struct text t, int fits(struct text, struct text)) {
-    struct text rest = {l->bytes, l->len}, name = text_of(record);
-    while (rest.len) {
-        struct text line = take_line(&rest);
-        if (line.len > name.len && line.at[name.len] == '\t' && !memcmp(line.at, name.at, name.len) &&
-            fits(t, (struct text){line.at + name.len + 1, line.len - name.len - 1}))
-            return 1;
-    }
-    return 0;
-}
-
-static int names_method(const struct listing *l, struct text method) {
-    return has_field(l, "method", method, is_same) || has_field(l, "omit", method, is_same);
-}
-
-static void say_method(const struct listing *old, const struct listing *new, struct text method) {
-    int named = names_method(old, method) || names_method(new, method);
-    fputs(named ? "use " : "use a method neither listing names (shown as ", stderr);
-    show(method);
-    if (!named) putc(')', stderr);
-}
-
-/* A filler that comparing made up begins the last segment, is all of it or all before its ending, and is inside no pattern: which tells it from
- * a path that a listing writes out. */
-static void say_path(const struct listing *old, const struct listing *new, struct text path) {
-    size_t start = path.len, end;
-    while (start && path.at[start - 1] != '/') start--;
-    for (end = start; end < path.len && path.at[end] != '.'; end++) continue;
-    struct text filler = {path.at + start, end - start}, above = {path.at, start ? start - 1 : 0}, ending = {path.at + end, path.len - end};
-    if (has_field(old, "pattern", filler, is_inside) || has_field(new, "pattern", filler, is_inside)) {
-        show(path);
+/* The filler method is tried last: on its path no method that a listing names is wider. */
+static void say_method(struct words *w, const struct trials *t, struct text method) {
+    struct text example = example_method(t);
+    if (!same(method, t->method[t->filler_method])) {
+        say(w, "use %t", &method);
         return;
     }
-    fputs("any path ", stderr);
-    if (above.len) fputs("below ", stderr), show(above), putc(' ', stderr);
-    if (ending.len) fputs("that ends in ", stderr), show(ending), fputs(" and ", stderr);
-    fputs("that neither listing writes out (shown as ", stderr);
-    show(path);
-    putc(')', stderr);
+    if (t->filler_method > MOST_EXCEPTED)
+        say(w, "use every method that neither listing names");
+    else
+        say(w, "use every method");
+    for (size_t m = 0; m < t->filler_method && t->filler_method <= MOST_EXCEPTED; m++)
+        say(w, "%s%t", !m ? " except " : m + 1 < t->filler_method ? ", " : " and ", &t->method[m]);
+    say(w, ", for example %t,", &example);
 }
 
-/* What the old listing answers to the request shown: to a caller with one role, or to one who isn't logged in (no name). */
-static const char *old_answer(const struct listing *old, struct text path, struct text method, struct text role) {
-    static uint32_t work[BUDQUARRY_WORK];
-    struct budquarry_decision d = budquarry_decide(old->bytes, old->len, path.at, path.len, method.at, method.len, role.len > 0, role.at, role.len,
-                                                   work, BUDQUARRY_WORK);
+static void say_best(struct words *w, const struct map *map, size_t best, const char *where) {
+    if (best == map->patterns)
+        say(w, "none in %s", where);
+    else
+        say(w, "%t in %s", &map->pattern[best].text, where);
+}
+
+/* 01 decides a path by its best patterns alone: a path that no listing writes out stands for those with the same best patterns, and for no others. */
+static void say_path(struct words *w, const struct trials *t, struct text path) {
+    const struct map *new = &t->new.map, *old = &t->old.map;
+    size_t in_new = best_pattern(new, path), in_old = best_pattern(old, path);
+    int has_new = in_new < new->patterns, has_old = in_old < old->patterns;
+    if ((has_new && kind_of(new->pattern[in_new].text) == EXACT) || (has_old && kind_of(old->pattern[in_old].text) == EXACT)) {
+        say(w, "%t", &path);
+        return;
+    }
+    say(w, "every path like %t (closest pattern: ", &path);
+    if (has_new && has_old && same(new->pattern[in_new].text, old->pattern[in_old].text)) {
+        say_best(w, new, in_new, "both listings");
+    } else {
+        say_best(w, new, in_new, "the new listing");
+        say(w, ", ");
+        say_best(w, old, in_old, "the old one");
+    }
+    say(w, ")");
+}
+
+/* What the old listing answers to the request shown. */
+static const char *old_answer(const struct trials *t, const struct request *q) {
+    static budquarry_work work;
+    const struct listing *old = t->old.listing;
+    /* a role with its byte 10, which follows it in the answer, as budquarry_decide takes names */
+    struct budquarry_decision d = budquarry_decide(old->bytes, old->len, q->path.at, q->path.len, q->method.at, q->method.len, q->role.len > 0,
+                                                   q->role.at, q->role.len + (q->role.len > 0), work, BUDQUARRY_WORK);
     switch (d.answer) {
     case BUDQUARRY_CLOSED: return "closes that to everyone";
     case BUDQUARRY_LOGIN_WANTED: return "wants a login for that";
@@ -96,79 +89,57 @@ static const char *old_answer(const struct listing *old, struct text path, struc
     }
 }
 
-/* The answer's next line without its name; 01 fixes the names and their order. */
-static struct text take_field(struct text *answer, const char *name) {
-    struct text line = take_line(answer);
-    size_t skipped = strlen(name) + 1;
-    return (struct text){line.at + skipped, line.len - skipped};
-}
-
-void say_verdict(const struct listing *old, const struct listing *new, const uint8_t *text, size_t length) {
-    struct text answer = {text, length};
-    if (length == BUDQUARRY_NO_WIDER) {
-        fputs("NO WIDER: nobody may do anything under the new listing that the old listing denies.\n", stderr);
+/* Whether the request shown is one by role: then there may be worse. */
+static void say_more(struct words *w, int more_here, const struct summary *s, int by_role) {
+    size_t more = s->paths - 1;
+    if (!more && !more_here) {
+        say(w, "That is all that is wider.");
         return;
     }
-    take_field(&answer, "verdict");
-    struct text path = take_field(&answer, "path"), method = take_field(&answer, "method"), role = {NULL, 0};
-    if (is_same(answer, text_of("caller\tnone\n"))) {
-        fputs("WIDER: anyone, without logging in, may ", stderr);
-    } else {
-        struct text name = take_field(&answer, "caller\trole");
-        role = (struct text){name.at, name.len + 1}; /* with its byte 10, as budquarry_decide takes names */
-        fputs("WIDER: a caller with the role ", stderr);
-        show(name);
-        fputs(" may ", stderr);
+    say(w, "That is not all: ");
+    if (more_here) say(w, "more is wider on %s", more ? "the same path, and " : "the same path");
+    if (more) say(w, more == 1 ? "1 more path is wider" : "%u more paths are wider", (unsigned)more);
+    say(w, ". ");
+    if (s->to_anyone && !more && by_role) say(w, "Some of it anyone may do, without a login. ");
+    if (s->to_anyone && more) {
+        if (s->to_anyone == s->paths)
+            say(w, "On each of these paths");
+        else
+            say(w, "On %u of these %u paths", (unsigned)s->to_anyone, (unsigned)s->paths);
+        say(w, " anyone gets in without a login. ");
     }
-    say_method(old, new, method);
-    fputs(" on ", stderr);
-    say_path(old, new, path);
-    fprintf(stderr, ". The old listing %s.\n", old_answer(old, path, method, role));
+    say(w, "Add --all to see everything.");
 }
 
-static const char *rule(uint32_t number) {
-    static const char *const rules[] = {
-        [BUDQUARRY_SHORT_TABLE] = "the work table is too short",
-        [BUDQUARRY_LONG_LISTING] = "a listing has at most 24,576 bytes, and this one is longer",
-        [BUDQUARRY_BAD_FIRST_LINE] = "the first line must be exactly constraints<tab>1, ended by a line feed",
-        [BUDQUARRY_BAD_FORM] = "unknown record name, wrong number of fields (one tab parts two fields), or a line that no line feed ends",
-        [BUDQUARRY_WRONG_PLACE] = "this record may not stand here",
-        [BUDQUARRY_BAD_NAME] = "bad role or method name, or constraint kind",
-        [BUDQUARRY_BAD_PATTERN] = "bad pattern",
-        [BUDQUARRY_PAST_MOST] = "more than the most: 64 constraints, 128 collections, 128 patterns, 512 method and omit lines, 32 roles, 31 methods",
-        [BUDQUARRY_ROLE_TWICE] = "this role is declared already",
-        [BUDQUARRY_NO_END] = "the last line must be end, and nothing may follow it",
-        [BUDQUARRY_BAD_PATH] = "bad path: it must be 1 to 1,024 text bytes and start with /",
-        [BUDQUARRY_BAD_METHOD] = "bad method: it must be 1 to 24 letters, digits or !#$%&'*+-.^_`|~",
-        [BUDQUARRY_BAD_CALLER] = "bad caller: at most 32 role names of 1 to 64 text bytes, no space first or last, none of them *",
-        [BUDQUARRY_SMALL_ANSWER] = "the answer buffer is too short"};
-    return number < sizeof rules / sizeof *rules && rules[number] ? rules[number] : "unknown rule";
+void say_wider(const struct trials *t, const struct request *q, int more_here, const struct summary *s) {
+    struct words w = {.len = 0}, more = {.len = 0};
+    if (q->role.len)
+        say(&w, "WIDER: a caller with the role %t may ", &q->role);
+    else
+        say(&w, "WIDER: anyone, without logging in, may ");
+    say_method(&w, t, q->method);
+    say(&w, " on ");
+    say_path(&w, t, q->path);
+    say(&w, ". The old listing %s.", old_answer(t, q));
+    tell(&w);
+    say_more(&more, more_here, s, q->role.len > 0);
+    tell(&more);
 }
 
-/* Line n of a listing, or that there is none any more. */
-static void say_line(const struct listing *listing, uint32_t n) {
-    struct text rest = {listing->bytes, listing->len};
-    while (--n && rest.len) take_line(&rest);
-    if (!rest.len) {
-        fputs("  (there is no such line: the listing ends before it)\n", stderr);
-        return;
-    }
-    struct text line = take_line(&rest);
-    fputs("  ", stderr);
-    show((struct text){line.at, line.len < LONGEST_SHOWN ? line.len : LONGEST_SHOWN});
-    if (line.len > LONGEST_SHOWN) fprintf(stderr, ".. (%zu bytes in all)", line.len);
-    putc('\n', stderr);
+void say_all(const struct trials *t, const struct summary *s, const char *accepting) {
+    struct words w = {.len = 0};
+    say(&w, s->paths == 1 ? "WIDER: on 1 path" : "WIDER: on %u paths", (unsigned)s->paths);
+    say(&w, " someone may do more than under the old listing");
+    if (accepting) say(&w, ", and it is not in %s", accepting);
+    if (s->to_anyone)
+        say(&w, s->to_anyone == s->paths ? "; anyone may, without a login" : "; on %u of them anyone may, without a login", (unsigned)s->to_anyone);
+    say(&w, ".");
+    if (s->made_up) say(&w, " A path with %s in it stands for every path with the same closest patterns.", t->filler);
+    tell(&w);
 }
 
-void say_refusal(uint32_t number, uint32_t line, const char *which, const struct listing *listing) {
-    fputs("refused: ", stderr);
-    if (which) {
-        fprintf(stderr, "the %s (", which);
-        show(text_of(strcmp(listing->name, "-") ? listing->name : "standard input"));
-        putc(')', stderr);
-        if (line) fprintf(stderr, ", line %u", line);
-        fputs(": ", stderr);
-    }
-    fprintf(stderr, "%s\n", rule(number));
-    if (line) say_line(listing, line);
+void say_accepted(const char *accepting) {
+    struct words w = {.len = 0};
+    say(&w, "ACCEPTED: the new listing is wider than the old one, and all of that is in %s.", accepting);
+    tell(&w);
 }

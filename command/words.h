@@ -2,20 +2,24 @@
 #ifndef WORDS_H
 #define WORDS_H
 
-#include <stddef.h>
-#include <stdint.h>
-#include "../include/budquarry.h"
+#include "showing.h"
+#include "widenings.h"
 
-struct listing {
-    const char *name; /* the file's, or - */
-    size_t len;
-    uint8_t bytes[BUDQUARRY_LISTING + 1]; /* one byte more than a listing may have, so that a longer file is seen to be longer */
+/* The request that an answer of budquarry_compare shows; no role: a caller who is not logged in. */
+struct request {
+    struct text path, method, role;
 };
+struct request shown_request(struct text answer);
 
-/* Which rule is broken; where `which` ("old listing" and the like) names a listing, also at what line of it, and that line's own text. */
-void say_refusal(uint32_t number, uint32_t line, const char *which, const struct listing *listing);
+void say_no_wider(void);
 
-/* Who may do what under the new listing, and what the old listing answers to it; text and length are the answer of budquarry_compare. */
-void say_verdict(const struct listing *old, const struct listing *new, const uint8_t *text, size_t length);
+/* Who may do what under the new listing, what the old listing answers to it, and how much more is wider: on this path, and on all. */
+void say_wider(const struct trials *t, const struct request *q, int more_here, const struct summary *s);
+
+/* How much is wider in all, behind the list of it; with a file of accepted widenings, beside these. */
+void say_all(const struct trials *t, const struct summary *s, const char *accepting);
+
+/* That the file has all of it. */
+void say_accepted(const char *accepting);
 
 #endif

@@ -9,8 +9,8 @@ static const char old_listing[] = "constraints\t1\nrole\tassessor\nconstraint\ta
 static const char new_listing[] = "constraints\t1\nrole\tassessor\nconstraint\tauth\nallow\tassessor\ncollection\npattern\t/clock/*\nmethod\tPUT\nend\n";
 
 int main(void) {
-    static uint32_t work[BUDQUARRY_WORK]; /* one for each thread that calls */
-    static uint8_t answer[BUDQUARRY_ANSWER];
+    budquarry_work work; /* on the stack: two calls at once must not share one */
+    uint8_t answer[BUDQUARRY_ANSWER];
 
     struct budquarry_decision d =
         budquarry_decide(TEXT(old_listing), TEXT("/clock/offset"), TEXT("PUT"), 1, TEXT("adjuster\nassessor\n"), work, BUDQUARRY_WORK);

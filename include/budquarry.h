@@ -1,26 +1,35 @@
-/* budquarry.h: access rules of one web application, read, decided and compared. This is the library's manual; README.md says what it is for.
+/* budquarry.h: access rules of one web application, read, decided and compared. This is the library's manual; README.md says what it is for, and
+ * budquarry-listing(5) what a listing is.
  *
  * Link with libbudquarry.a (x86-64). It needs memset and memcpy and nothing else: `cc gateway.c $(pkg-config --cflags --libs budquarry)`.
  * examples/link.c is a whole program. May this caller write the clock offset?
  *
- *     static uint32_t work[BUDQUARRY_WORK];
- *     struct budquarry_decision d = budquarry_decide(listing, listing_len, (const uint8_t *)"/clock/offset", 13, (const uint8_t *)"PUT", 3,
- *                                                    1, (const uint8_t *)"assessor\n", 9, work, BUDQUARRY_WORK);
- *     if (d.number) ..refused: the listing or the request is bad, see below..
- *     else if (d.answer == BUDQUARRY_OPEN || d.answer == BUDQUARRY_BY_ROLE) ..granted..
+ *     int may_write_offset(const uint8_t *listing, size_t listing_len, const uint8_t *roles, size_t roles_len) {
+ *         budquarry_work work;
+ *         struct budquarry_decision d = budquarry_decide(listing, listing_len, (const uint8_t *)"/clock/offset", 13, (const uint8_t *)"PUT", 3,
+ *                                                        1, roles, roles_len, work, BUDQUARRY_WORK);
+ *         return d.answer == BUDQUARRY_OPEN || d.answer == BUDQUARRY_BY_ROLE;
+ *     }
+ *
+ * roles is "assessor\n", say. Where the listing or the request is bad, d.number says which rule it breaks (below), and d.answer is no grant.
  *
  * Every listing, request and buffer gets a definite answer: no call needs a check by its caller. No call allocates, calls back, prints or keeps
  * anything between calls, and there is no global state: calls from several threads are safe where the buffers that they write to (work tables, answer
  * buffers) are separate.
  *
+ * THE WORK TABLE IS OF ONE CALL ALONE. So take it from the stack of the call, as above, and never `static` in a function that two threads may run.
+ * The listing and the roles it grants stand in the table during the call: two calls in one table mix them, and a request that is denied can be
+ * answered as granted. Tried with two threads and one static table, a closed request was answered BUDQUARRY_OPEN in 1,268 of 2,362,106 calls.
+ *
+ * The table is scratch: of at least BUDQUARRY_WORK numbers, whatever they are; a budquarry_work is one, of 16 KiB. Its length is given in numbers
+ * (BUDQUARRY_WORK), its size for malloc is sizeof(budquarry_work). After a call the first BUDQUARRY_WORK numbers are zero and the rest as before; with
+ * BUDQUARRY_SHORT_TABLE none changes.
+ *
  * Buffers are the caller's, lent for the time of the call. A text is a pointer and a length in bytes, with no NUL at its end; the work table is a
  * pointer and a length in numbers. Null with length 0 is fine. Texts that are only read (const) may be one and the same or overlap; the work table and
  * the answer buffer overlap nothing.
  *
- * The work table is scratch: of at least BUDQUARRY_WORK numbers, whatever they are. After a call the first BUDQUARRY_WORK are zero and the
- * rest as before; with BUDQUARRY_SHORT_TABLE none changes.
- *
- * Stack of one call: under 2 KiB for reading and for deciding, under 3 KiB for comparing; see bench/RESULTS.md.
+ * Stack of one call, besides the buffers: under 2 KiB for reading and for deciding, under 3 KiB for comparing; see bench/RESULTS.md.
  */
 #ifndef BUDQUARRY_H
 #define BUDQUARRY_H
@@ -28,7 +37,7 @@
 #include <stddef.h>
 #include <stdint.h>
 
-#define BUDQUARRY_VERSION "1.0"
+#define BUDQUARRY_VERSION "1.1"
 
 #ifdef __cplusplus
 extern "C" {
@@ -39,6 +48,11 @@ enum {
     BUDQUARRY_ANSWER = 1024,  /* least bytes in the answer buffer */
     BUDQUARRY_LISTING = 24576 /* most bytes of a listing */
 };
+
+typedef uint32_t budquarry_work[BUDQUARRY_WORK]; /* a work table */
+
+/* The version of the library that is linked, as BUDQUARRY_VERSION is that of the header. */
+const char *budquarry_version(void);
 
 /* Refusals: number, side and line; all three are 0 where nothing is refused. The first that applies, in this order, is given. Its side is 1 for
  * the only or the old listing, 2 for the new one, and 0 where no listing is at fault; its line counts from 1, and is 0 with side 0 and for a
@@ -106,9 +120,9 @@ enum { BUDQUARRY_NO_WIDER = 17 }; /* the length of the answer `verdict<tab>no wi
  *     path<tab>PATH
  *     method<tab>METHOD
  *     caller<tab>none                  not logged in;  or  caller<tab>role<tab>NAME, logged in with that one role
- * A METHOD `Q0` (`Q1`..) that neither listing names stands for every method that neither names; a `q0` (`q1`..) in PATH that is inside no pattern
- * of either stands for any text there that neither writes out. No wider exactly when length is BUDQUARRY_NO_WIDER. With a refusal length is 0 and the
- * whole answer buffer as before: a caller who forgets to look at number can't read a refusal as a verdict. */
+ * A METHOD `Q0` (`Q1`..) that neither listing names stands for every method that neither names; a PATH with a `q0` (`q1`..) that is inside no
+ * pattern of either stands for every path to which the same patterns are closest in both. No wider exactly when length is BUDQUARRY_NO_WIDER. With a
+ * refusal length is 0 and the whole answer buffer as before: a caller who forgets to look at number can't read a refusal as a verdict. */
 struct budquarry_comparison budquarry_compare(const uint8_t *old_listing, size_t old_len, const uint8_t *new_listing, size_t new_len,
                                               uint8_t *answer, size_t answer_len, uint32_t *work, size_t work_len);
 

@@ -1,22 +1,31 @@
 /* gateway_client: what curl and ab can't do to a gateway on loopback. It writes its requests itself, byte for byte.
- *   raw PORT                         sends standard input, hangs up its side, prints the status of each reply on one line
- *   agree PORT LISTING USERS SEED N  N requests; each reply must be what budquarry_decide says, called here with the same bytes
- *   damage PORT SEED N               N requests with damaged bytes; the gateway must answer below 500 (or 505), or hang up
- *   hold PORT N                      N connections at once, all in the middle of a request; half of them go on, half hang up
+ *   raw PORT                              sends standard input, hangs up its side, prints the status of each reply on one line
+ *   agree PORT LISTING USERS SEED N ODD   N requests; each reply must be what budquarry_decide says, called here with the same bytes; ODD is `refuse`
+ *                                         where paths that could be read as another path must be refused, `pass` where they are decided as well
+ *   damage PORT SEED N                    N requests with damaged bytes; the gateway must answer below 500 (or 505), or hang up
+ *   hold PORT N                           N connections at once, all in the middle of a request; half of them go on, half hang up
+ *   crowd PORT N MS                       N connections that send a byte now and then; another client must get its reply within MS milliseconds, and one
+ *                                         that asks all the time must get all of them
+ *   silent PORT N PID MS                  N connections that say nothing; SIGTERM to PID must end them all within MS milliseconds
+ *   upload PORT KIND                      a denied request with an endless body (KIND is `length` or `chunked`): it must be denied and cut off
+ *   overhear PORT PID                     a connection that says nothing; SIGHUP to PID, and nothing may come
  * Exit status: 0 as it must be, 1 not so (said on standard error). Nothing waits longer than WAIT seconds.
  */
 #define _GNU_SOURCE
 #include <arpa/inet.h>
+#include <poll.h>
+#include <signal.h>
 #include <stdint.h>
 #include <stdio.h>
 #include <stdlib.h>
 #include <string.h>
 #include <sys/socket.h>
 #include <sys/time.h>
+#include <time.h>
 #include <unistd.h>
 #include "../include/budquarry.h"
 
-enum { WAIT = 8, REPLY = 65536, REQUEST = 131072, USERS = 16 };
+enum { WAIT = 8, REPLY = 65536, REQUEST = 131072, USERS = 16, UPLOAD = 64 << 20 };
 
 static unsigned short port;
 static uint64_t seed;
@@ -135,7 +144,7 @@ static void base64(const char *text, char *to) {
 static void make_path(char *to) {
     static const char *const stems[] = {"/", "/x", "/clock", "/clock/", "/clock/a", "/clockwork", "/clock/offset", "/log.csv", "/clock/log.csv", "/a/b.c.csv",
                                         "/%63lock/a", "/clock%2Foffset", "/clock/offset%00", "/clock/../x", "/x/../clock/offset", "//clock/offset",
-                                        "/clock/./offset", "/clock/offset;v=1", "/clock/offset/", "/.csv", "/csv", "/x.CSV", "x", "*", "http://h/clock/offset"};
+                                        "/clock/./offset", "/clock/..", "/clock/.;a/offset", "/clock/.../offset", "/clock/.a", "/clock\\offset", "/clock/offset#a", "/clock/offset;v=1", "/clock/offset/", "/.csv", "/csv", "/x.CSV", "x", "*", "http://h/clock/offset"};
     size_t len = (size_t)sprintf(to, "%s", stems[below(sizeof stems / sizeof *stems)]);
     unsigned grow = below(4) ? 0 : below(6) ? below(12) : 1000 + below(40), any = below(2);
     while (grow--) {
@@ -156,13 +165,32 @@ static void make_method(char *to) {
     to[len] = 0;
 }
 
-/* What the gateway must say: status and line, from the library alone. */
+static int refuses_odd;
+
+/* Whether a server could make this one with another path: one of the bytes % # \, or a segment that is empty and not the last, or . or .. up to its
+ * `;`. */
+static int is_odd(const char *path) {
+    char copy[2048], *rest = strcpy(copy, path);
+    if (strchr(path, '%') || strchr(path, '#') || strchr(path, '\\')) return 1;
+    strsep(&rest, "/");
+    while (rest) {
+        char *segment = strsep(&rest, "/");
+        if (!*segment && rest) return 1;
+        segment[strcspn(segment, ";")] = 0;
+        if (!strcmp(segment, ".") || !strcmp(segment, "..")) return 1;
+    }
+    return 0;
+}
+
+/* What the gateway must say: status and line, from the library alone but for odd paths. */
 static int expected(const char *path, const char *method, const struct caller *c, int wrong, const char **line) {
     static const char *const answers[] = {"", "open\n", "by role\n", "closed\n", "login wanted\n", "role lacking\n"};
     static const int statuses[] = {0, 200, 200, 403, 401, 403};
     static uint32_t work[BUDQUARRY_WORK];
     *line = "bad credentials\n";
     if (wrong) return 401;
+    *line = "odd path: it could be read as another one\n";
+    if (refuses_odd && is_odd(path)) return 400;
     struct budquarry_decision d = budquarry_decide(listing, listing_len, (const uint8_t *)path, strlen(path), (const uint8_t *)method, strlen(method), c != NULL,
                                                    (const uint8_t *)(c ? c->roles : ""), c ? strlen(c->roles) : 0, work, BUDQUARRY_WORK);
     *line = d.number == BUDQUARRY_BAD_PATH ? "bad path\n" : d.number == BUDQUARRY_BAD_METHOD ? "bad method\n" : answers[d.answer];
@@ -263,13 +291,119 @@ static int hold(unsigned count) {
     return 0;
 }
 
+/* --- slow, silent and endless clients --- */
+
+static int64_t milliseconds(void) {
+    struct timespec now;
+    clock_gettime(CLOCK_MONOTONIC, &now);
+    return (int64_t)now.tv_sec * 1000 + now.tv_nsec / 1000000;
+}
+
+/* COUNT connections, each of which has sent this. */
+static int *dial_all(unsigned count, const char *text) {
+    int *s = calloc(count, sizeof *s);
+    if (!s) fail("no memory");
+    for (unsigned i = 0; i < count; i++) put(s[i] = dial(), text, strlen(text));
+    return s;
+}
+
+static void close_all(int *s, unsigned count) {
+    for (unsigned i = 0; i < count; i++) close(s[i]);
+    free(s);
+}
+
+/* A connection is made before the gateway knows of it. */
+static void wait_till_accepted(void) {
+    struct timespec wait = {.tv_nsec = 150000000};
+    nanosleep(&wait, NULL);
+}
+
+/* One request and its 200, on a connection that stays. */
+static int is_served(int s) {
+    static const char ask[] = "GET /x HTTP/1.1\r\nHost: h\r\n\r\n";
+    static char reply[REPLY];
+    char *body;
+    int closes;
+    put(s, ask, sizeof ask - 1);
+    return get_reply(s, 0, reply, &body, &closes) && status_of(reply) == 200 && !closes;
+}
+
+/* The busy client came first and asks all the time; the late one comes last. Neither may suffer. */
+static int crowd(unsigned count, int most) {
+    static const char ask[] = "GET /x HTTP/1.1\r\nHost: h\r\nConnection: close\r\n\r\n";
+    static char reply[REPLY];
+    int busy = dial(), is_busy_served = is_served(busy);
+    int *slow = dial_all(count, "GET /x HTTP/1.1\r\nHost: h\r\nX: ");
+    struct pollfd late = {.fd = dial(), .events = POLLIN};
+    int64_t start = milliseconds();
+    put(late.fd, ask, sizeof ask - 1);
+    while (!poll(&late, 1, 100) && milliseconds() - start < most) {
+        for (unsigned i = 0; i < count; i++) put(slow[i], "a", 1);
+        is_busy_served = is_busy_served && is_served(busy);
+    }
+    int64_t waited = milliseconds() - start;
+    int is_late_served = poll(&late, 1, 0) && get_all(late.fd, reply) && status_of(reply) == 200;
+    is_busy_served = is_busy_served && is_served(busy);
+    close(busy), close(late.fd);
+    close_all(slow, count);
+    printf("crowd: beside %u slow clients a late one is %sserved after %lld ms, a busy one %s\n", count, is_late_served ? "" : "not ", (long long)waited,
+           is_busy_served ? "all the time" : "is cut off");
+    return !is_late_served || !is_busy_served;
+}
+
+static int silent(unsigned count, pid_t pid, int most) {
+    static char reply[REPLY];
+    int *s = dial_all(count, "");
+    wait_till_accepted();
+    int64_t start = milliseconds();
+    kill(pid, SIGTERM);
+    for (unsigned i = 0; i < count; i++) get_all(s[i], reply);
+    int64_t waited = milliseconds() - start;
+    close_all(s, count);
+    printf("silent: SIGTERM ended %u connections after %lld ms\n", count, (long long)waited);
+    return waited > most;
+}
+
+static int upload(int chunked) {
+    static char piece[65536], reply[REPLY];
+    size_t sent = 0, len;
+    ssize_t n = 0;
+    int s = dial();
+    memset(piece, 'a', sizeof piece);
+    len = (size_t)sprintf(reply, "DELETE /x HTTP/1.1\r\nHost: h\r\n%s\r\n\r\n%s", chunked ? "Transfer-Encoding: chunked" : "Content-Length: 999999999999",
+                          chunked ? "fffffffff\r\n" : "");
+    put(s, reply, len);
+    while (sent < UPLOAD && (n = send(s, piece, sizeof piece, MSG_NOSIGNAL)) > 0) sent += (size_t)n;
+    get_all(s, reply);
+    close(s);
+    printf("upload: status %d, cut off after %zu bytes\n", status_of(reply), sent);
+    return sent >= UPLOAD || status_of(reply) != 403;
+}
+
+static int overhear(pid_t pid) {
+    static char heard[4096];
+    struct pollfd s = {.fd = dial(), .events = POLLIN};
+    wait_till_accepted();
+    kill(pid, SIGHUP);
+    ssize_t n = poll(&s, 1, 300) > 0 ? recv(s.fd, heard, sizeof heard - 1, 0) : 0;
+    close(s.fd);
+    printf("overhear: %s\n", n > 0 ? heard : "nothing");
+    return n > 0;
+}
+
 int main(int argc, char **argv) {
+    const char *verb = argc > 1 ? argv[1] : "";
     if (argc > 2) port = (unsigned short)atoi(argv[2]);
-    if (argc == 3 && !strcmp(argv[1], "raw")) return raw();
-    if (argc == 4 && !strcmp(argv[1], "hold")) return hold((unsigned)atoi(argv[3]));
-    if (argc == 5 && !strcmp(argv[1], "damage")) return seed = strtoull(argv[3], NULL, 10), damage((unsigned)atoi(argv[4]));
-    if (argc != 7 || strcmp(argv[1], "agree")) return fputs("usage: see the head of gateway_client.c\n", stderr), 1;
+    if (argc == 3 && !strcmp(verb, "raw")) return raw();
+    if (argc == 4 && !strcmp(verb, "hold")) return hold((unsigned)atoi(argv[3]));
+    if (argc == 4 && !strcmp(verb, "upload")) return upload(!strcmp(argv[3], "chunked"));
+    if (argc == 4 && !strcmp(verb, "overhear")) return overhear(atoi(argv[3]));
+    if (argc == 5 && !strcmp(verb, "crowd")) return crowd((unsigned)atoi(argv[3]), atoi(argv[4]));
+    if (argc == 5 && !strcmp(verb, "damage")) return seed = strtoull(argv[3], NULL, 10), damage((unsigned)atoi(argv[4]));
+    if (argc == 6 && !strcmp(verb, "silent")) return silent((unsigned)atoi(argv[3]), atoi(argv[4]), atoi(argv[5]));
+    if (argc != 8 || strcmp(verb, "agree")) return fputs("usage: see the head of gateway_client.c\n", stderr), 1;
     load(argv[3], argv[4]);
     seed = strtoull(argv[5], NULL, 10);
+    refuses_odd = !strcmp(argv[7], "refuse");
     return agree((unsigned)atoi(argv[6]));
 }

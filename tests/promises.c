@@ -65,7 +65,12 @@ static void whole_buffers(void) {
     HOLDS(work_is(0, BUDQUARRY_WORK, 0) && work_is(BUDQUARRY_WORK, WORK, 0xa5a5a5a5u));
 }
 
+static void version(void) {
+    HOLDS(!strcmp(budquarry_version(), BUDQUARRY_VERSION));
+}
+
 int main(void) {
+    version();
     nulls();
     short_buffers();
     whole_buffers();
