@@ -360,7 +360,9 @@ static void bad_ending(struct words *w, struct text ending) {
 static void bad_pattern(struct words *w, struct text p) {
     if (windows_end(w, p) || spaces_at_end(w, p, "the pattern") || control_byte(w, p, "the pattern") || too_long(w, p, 255, "a pattern")) return;
     struct text more = behind(p, 1);
-    if (starts_with(p, "*."))
+    if (count_byte(p, ';'))
+        say(w, "a pattern can't hold a ;. What stands from a ; on in a path is a parameter, and is left out before the path is matched. Take it out of the pattern.");
+    else if (starts_with(p, "*."))
         bad_ending(w, behind(p, 2));
     else if (same(p, text_of("*")) || same(p, text_of("**")))
         say(w, "a pattern starts with / or with *. and an ending. Write /* for every path.");

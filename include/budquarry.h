@@ -29,7 +29,7 @@
  * pointer and a length in numbers. Null with length 0 is fine. Texts that are only read (const) may be one and the same or overlap; the work table and
  * the answer buffer overlap nothing.
  *
- * Stack of one call, besides the buffers: under 2 KiB for reading and for deciding, under 3 KiB for comparing; see bench/RESULTS.md.
+ * Stack of one call, besides the buffers: under 1 KiB for reading, under 3 KiB for deciding and for comparing; see bench/RESULTS.md.
  */
 #ifndef BUDQUARRY_H
 #define BUDQUARRY_H
@@ -66,12 +66,12 @@ enum {
     BUDQUARRY_BAD_FORM = 4,       /* on a later line: unknown record name, wrong number of fields, or no byte 10 */
     BUDQUARRY_WRONG_PLACE = 5,    /* a record that may not stand behind the one before it */
     BUDQUARRY_BAD_NAME = 6,       /* bad role or method name, or constraint kind */
-    BUDQUARRY_BAD_PATTERN = 7,    /* bad pattern */
+    BUDQUARRY_BAD_PATTERN = 7,    /* bad pattern, also one with a `;` in it */
     BUDQUARRY_ROLE_TWICE = 9,     /* role declared twice */
     BUDQUARRY_PAST_MOST = 8,      /* this line is one too many: most are 64 constraints, 128 collections, 128 pattern lines, 512 method and omit
                                      lines together, 32 distinct role names (declared or allowed, `*` not counted), 31 distinct methods */
     BUDQUARRY_NO_END = 10,        /* no `end` (at the line after the last), or bytes after it (at the next line) */
-    BUDQUARRY_BAD_PATH = 11,      /* side 0 (deciding): not 1 to 1,024 text bytes that start with `/` */
+    BUDQUARRY_BAD_PATH = 11,      /* side 0 (deciding): not 1 to 1,024 text bytes that start with `/`, parameters counted */
     BUDQUARRY_BAD_METHOD = 12,    /* side 0 (deciding): not 1 to 24 token bytes */
     BUDQUARRY_BAD_CALLER = 13     /* side 0 (deciding): a name that isn't 1 to 64 text bytes, or has a space first or last, or is `*`; over 32 names;
                                      a last name that no byte 10 ends; names though not logged in; login above 1 */
@@ -99,7 +99,8 @@ struct budquarry_decision {
 };
 
 /* Decides one request. login is 0 (not logged in: then roles has no bytes) or 1; roles holds the names of at most 32 roles, each ended by byte
- * 10. The path is matched byte for byte: no decoding, no parameters dropped. */
+ * 10. The path is matched without its parameters: in every segment the bytes from the first `;` up to the next `/` or the end are left out first, so
+ * that `/clock/offset;s=12` is decided as `/clock/offset` is. Nothing is decoded. The 1,024 bytes count before that. */
 struct budquarry_decision budquarry_decide(const uint8_t *listing, size_t listing_len, const uint8_t *path, size_t path_len,
                                            const uint8_t *method, size_t method_len, uint32_t login, const uint8_t *roles, size_t roles_len,
                                            uint32_t *work, size_t work_len);

@@ -12,8 +12,8 @@
  * the path, the method, the roles.  A part that the file is too short for is
  * cut to what is there.
  *
- * Each case also says, read off 01 by hand, which refusal number or answer has
- * to come: exit 1 if second.c answers otherwise.
+ * Each case also says, read off 01 and Item 1 of 02 by hand, which refusal
+ * number or answer has to come: exit 1 if second.c answers otherwise.
  */
 #include "second.h"
 
@@ -176,11 +176,12 @@ static void paths(void)
     set(&m.path, "/x");
     add(&m.path, "\0", 1);
     ask(11, "byte 0 at a path's end: 11");
-    /* "A `;` in a path is an ordinary byte." */
+    /* 02, Item 1: "drop the bytes from the first `;`"; "a pattern with `;`
+     *  gives 7" */
     listing("constraint\tauth\ncollection\npattern\t/a\n");
-    path_is("/a;b", OPEN, "a ; and more behind an exact text: no match");
+    path_is("/a;b", CLOSED, "a ; and more behind an exact text: dropped");
     listing("constraint\tauth\ncollection\npattern\t/a;b\n");
-    ask(CLOSED, "a ; in an exact text");
+    ask(7, "a ; in a pattern: 7");
 }
 
 static void method_is(const char *method, unsigned outcome, const char *purpose)
@@ -649,6 +650,104 @@ static void servlet(void)
     question("/acme", "GET", NULL, LOGIN_WANTED, "Example 4 with SC5: GET, not logged in");
 }
 
+/* A path of a length: a start, then so many of a byte. */
+static void long_path(const char *start, char byte, size_t length, unsigned outcome,
+                      const char *purpose)
+{
+    set(&m.path, start);
+    many(&m.path, byte, length - strlen(start));
+    ask(outcome, purpose);
+}
+
+/* 02, Item 1: "In every segment drop the bytes from the first `;` up to the
+ * next `/` or the end, then match; the 1,024 limit counts the bytes before
+ * dropping." */
+static void parameters(void)
+{
+    request("/", "GET", 0, "");
+    listing("constraint\tauth\ncollection\npattern\t/a/b\n");
+    path_is("/a/b;s=12", CLOSED, "a parameter at the end of /a/b");
+    path_is("/a;s=12/b", CLOSED, "a parameter in the middle of /a/b");
+    path_is("/a;s=12/b;s=12", CLOSED, "a parameter in each segment of /a/b");
+    path_is("/a;x;y/b;;z", CLOSED, "several in a segment of /a/b");
+    path_is("/a;/b", CLOSED, "an empty parameter in /a/b");
+    path_is("/a/b;", CLOSED, "an empty parameter behind /a/b");
+    path_is("/a/b;x/", OPEN, "the / behind a parameter stays: /a/b/");
+    path_is("/a;x/b/c", OPEN, "what follows a parameter's segment stays: /a/b/c");
+    path_is("/a/;x/b", OPEN, "a segment of a parameter alone stays, empty: /a//b");
+    path_is("/;x/a/b", OPEN, "a first segment of a parameter alone: //a/b");
+    path_is("/a;/b/", OPEN, "a parameter before the last / but one: /a/b/");
+    path_is("/a/b=s;12", OPEN, "only what follows the ; is dropped: /a/b=s");
+    path_is("/a/b%3Bs=12", OPEN, "an escaped ; is no ;");
+    path_is("/a/;b", OPEN, "a segment's text behind its ; is dropped: /a/");
+    /* 11 is of the path as received */
+    path_is(";/a/b", 11, "a ; before the first /: 11");
+    path_is(";", 11, "a ; alone: 11");
+    path_is("/a/b;\t", 11, "byte 9 in a parameter: 11");
+    path_is("/a;\x7f/b", 11, "byte 127 in a parameter: 11");
+    path_is("/a/b; \x80\xff", CLOSED, "a space and bytes above 127 in a parameter");
+    long_path("/a/b;", 'x', 1024, CLOSED, "1,024 bytes, 4 after dropping");
+    long_path("/a/b;", 'x', 1025, 11, "1,025 bytes, 4 after dropping: 11");
+    long_path("/a/b", ';', 1024, CLOSED, "1,024 bytes, all but 4 a ;");
+    long_path("/a/b", ';', 1025, 11, "1,025 bytes, all but 4 a ;: 11");
+    /* each kind of pattern */
+    listing("constraint\tauth\ncollection\npattern\t/clock/*\n");
+    path_is("/clock;s=12", CLOSED, "/clock;s=12 against /clock/*");
+    path_is("/clock;s=12/x", CLOSED, "/clock;s=12/x against /clock/*");
+    path_is("/clock;work", CLOSED, "/clock;work against /clock/*");
+    path_is("/clockwork;x", OPEN, "/clockwork;x against /clock/*");
+    path_is("/clo;ck/x", OPEN, "/clo;ck/x against /clock/*");
+    path_is("/x;/clock/y", OPEN, "/x;/clock/y against /clock/*");
+    listing("constraint\tauth\ncollection\npattern\t*.csv\n");
+    path_is("/x.csv;v=1", CLOSED, "/x.csv;v=1 against *.csv");
+    path_is("/x.csv;v=1.txt", CLOSED, "/x.csv;v=1.txt against *.csv");
+    path_is("/x.c;v=1sv", OPEN, "/x.c;v=1sv against *.csv");
+    path_is("/x;v=1.csv", OPEN, "/x;v=1.csv against *.csv");
+    path_is("/x;.csv", OPEN, "/x;.csv against *.csv");
+    path_is("/x.;csv", OPEN, "/x.;csv against *.csv");
+    path_is("/x.csv;v/", OPEN, "/x.csv;v/ against *.csv");
+    path_is("/x;a.b/y.csv;c.d", CLOSED, "/x;a.b/y.csv;c.d against *.csv");
+    listing("constraint\tauth\ncollection\npattern\t\n");
+    path_is("/;x", CLOSED, "/;x against the empty pattern");
+    path_is("/;", CLOSED, "/; against the empty pattern");
+    path_is("/;/", OPEN, "/;/ against the empty pattern");
+    path_is("/x;", OPEN, "/x; against the empty pattern");
+    listing("constraint\tauth\ncollection\npattern\t//*\n");
+    path_is("/;/", CLOSED, "/;/ against //*");
+    path_is("/;x", CLOSED, "/;x against //*: it is its P");
+    path_is("/;x/y", CLOSED, "/;x/y against //*");
+    listing("constraint\tauth\ncollection\npattern\t/\n");
+    path_is("/;x", CLOSED, "/;x against /");
+    path_is("/a;x/b", CLOSED, "/a;x/b against /");
+    /* the best match is of the path without them */
+    listing("constraint\tauth\ncollection\npattern\t/*\n"
+            "constraint\topen\ncollection\npattern\t/a/*\n"
+            "constraint\tauth\nallow\ta;b\ncollection\npattern\t/a/x\n");
+    path_is("/a;x", OPEN, "a parameter behind the longer P");
+    path_is("/a/x;y", LOGIN_WANTED, "a parameter behind the exact text");
+    path_is("/ax;y", CLOSED, "a parameter behind neither");
+    /* names and methods keep their bytes */
+    caller_is(1, "a;b\n", CLOSED, "a role name with a ;, on a closed path");
+    set(&m.path, "/a/x;y");
+    ask(BY_ROLE, "a role name with a ;");
+    caller_is(1, "a\n", ROLE_LACKING, "the role name up to its ;");
+    caller_is(1, "a;c\n", ROLE_LACKING, "the role name with something else behind its ;");
+    caller_is(1, "a;b/\n", ROLE_LACKING, "the role name and a /");
+    method_is("G;T", 12, "a ; in a method: 12");
+    /* 02's own: worked request 8 and its neighbours, with a mark */
+    listing("role\tadjuster\nrole\tassessor\nrole\towner\n"
+            "constraint\tauth\ncollection\npattern\t/*\nmethod\tDELETE\n"
+            "constraint\tauth\nallow\tassessor\ncollection\npattern\t/clock/*\nomit\tGET\n"
+            "constraint\topen\ncollection\npattern\t*.csv\n"
+            "constraint\tauth\nallow\t*\ncollection\npattern\t/clock/offset\nmethod\tGET\n");
+    question("/clock/offset;s=12", "GET", NULL, LOGIN_WANTED, "/clock/offset;s=12, not logged in");
+    question("/clock/offset;s=12", "GET", "owner", BY_ROLE, "/clock/offset;s=12, a declared role");
+    question("/clock/offset;s=12", "PUT", NULL, OPEN, "/clock/offset;s=12, an uncovered method");
+    question("/clock;s=12/offset", "GET", NULL, LOGIN_WANTED, "/clock;s=12/offset, not logged in");
+    question("/clock/offset;s=12/x", "PUT", "owner", ROLE_LACKING, "/clock/offset;s=12/x, below the prefix");
+    question("/log.csv;s=12", "DELETE", "assessor", CLOSED, "/log.csv;s=12, the prefix of all");
+}
+
 int main(int argc, char **argv)
 {
     char name[4096];
@@ -678,6 +777,7 @@ int main(int argc, char **argv)
     answers();
     worked();
     servlet();
+    parameters();
     if (fclose(m.index) != 0) {
         fprintf(stderr, "cannot write %s\n", name);
         return 2;

@@ -7,7 +7,7 @@
  * what it is for` each), and prints a line `caseNNN NUMBER SIDE LINE` each.
  * Exit 1 if the yardstick answers otherwise.
  * What a case is for stands in its call of finish() and so in the index; where
- * the text of 01 is at work the comment above says which.
+ * the text of 01 (or 02) is at work the comment above says which.
  */
 #include "second.h"
 #include "yardstick.h"
@@ -358,7 +358,7 @@ static void pattern_kinds(struct maker *m)
     after_first(m, "constraint\topen\ncollection\npattern\t/\npattern\t/*\npattern\t//*\npattern\t/a/*\n"
                 "pattern\t/a*/*\npattern\t*.a\npattern\t*.a b\npattern\t*. a\npattern\t*.+\npattern\t/a\n"
                 "pattern\t/a*\npattern\t/a/\npattern\t/*/a\npattern\t/*.a\npattern\t//\npattern\t/ a\n"
-                "pattern\t/\x80\xff\npattern\t/a/*x\npattern\t/**\npattern\t/;\nend\n",
+                "pattern\t/\x80\xff\npattern\t/a/*x\npattern\t/**\npattern\t/:\nend\n",
                 "twenty good patterns of all kinds, accepted");
     /* "a pattern of 255 bytes passes, 256 gives 7" */
     long_pattern(m, "/", 255, "", "an exact pattern of 255 bytes, accepted");
@@ -578,6 +578,39 @@ static void two_faults(struct maker *m)
     after_first(m, "bogus\nend\nx", "4 on a line before 10");
 }
 
+static void semicolons(struct maker *m)
+{
+    /* 02, Item 1: "a pattern with `;` gives 7" */
+    pattern(m, ";", "a ; alone: 7");
+    pattern(m, "/;", "a ; behind the slash: 7");
+    pattern(m, ";/a", "a ; before the slash: 7");
+    pattern(m, "/a;b", "a ; in an exact pattern: 7");
+    pattern(m, "/a/b;", "a ; last in an exact pattern: 7");
+    pattern(m, "/a;/*", "a ; last in a prefix: 7");
+    pattern(m, "/a;s=1/b/*", "a ; in the middle of a prefix: 7");
+    pattern(m, "/;*", "a ; and a star: 7");
+    pattern(m, "*.;", "a ; as an extension: 7");
+    pattern(m, "*.abcdefghijklmnop;", "a ; far behind in an extension: 7");
+    pattern(m, "*;.a", "a ; before the dot of an extension: 7");
+    long_pattern(m, "/", 255, ";", "a ; as the last of 255 bytes: 7");
+    /* "drop the bytes from the first `;`" is of paths: names keep theirs */
+    role(m, "a;b", "a ; in a role name, accepted");
+    allow(m, ";", "a ; as an allowed name, accepted");
+    method(m, "G;T", "a ; in a method, no token byte: 6");
+    /* "within a line 4, 5, 6, 7, 9, 8"; "lines top down" */
+    after_first(m, "constraint\topen\ncollection\npattern\t/a;\tb\nend\n", "4 before 7: a tab behind a ;");
+    after_first(m, BODY "method\tGET\npattern\t/a;b\nend\n", "5 before 7: a ; in a misplaced pattern");
+    begin(m);
+    say(m, "constraint\topen\ncollection\n");
+    patterns(m, 128);
+    say(m, "pattern\t/a;b\nend\n");
+    finish(m, "7 before 8: a ; in the 129th pattern");
+    after_first(m, "constraint\topen\ncollection\npattern\t/a\npattern\t/b;\nmethod\t(\nend\n",
+                "a ; in the second pattern: 7 at its line, before 6 at the next");
+    after_first(m, "role\ta\nrole\ta\nconstraint\topen\ncollection\npattern\t;\nend\n",
+                "9 on a line before a ;");
+}
+
 int main(int argc, char **argv)
 {
     static struct maker m;
@@ -604,6 +637,7 @@ int main(int argc, char **argv)
     ends(&m);
     sizes(&m);
     two_faults(&m);
+    semicolons(&m);
     if (fclose(m.index) != 0) {
         fprintf(stderr, "cannot write %s\n", name);
         return 2;

@@ -88,7 +88,8 @@ static const struct bytes ROLES[] = {
     BYTES("longpref-A-longsuff"), BYTES("longpref-B-longsuff"),
     BYTES("longpref-A-middle-longsuff"), BYTES("longpref-A-muddle-longsuff"),
     BYTES("role"), BYTES("allow"), BYTES("none"), BYTES("A"),
-    BYTES(X16 X16 X16 "xxxxxxxxxxxxxxxA"), BYTES(X16 X16 X16 "xxxxxxxxxxxxxxxB")
+    BYTES(X16 X16 X16 "xxxxxxxxxxxxxxxA"), BYTES(X16 X16 X16 "xxxxxxxxxxxxxxxB"),
+    BYTES(";"), BYTES("a;b")
 };
 
 static const struct bytes BAD_ROLES[] = {
@@ -109,14 +110,15 @@ static const struct bytes METHODS[] = {
 static const struct bytes BAD_METHODS[] = {
     BYTES(""), BYTES("a b"), BYTES("xxxxxxxxxxxxxxxxxxxxxxxxx"), BYTES("("), BYTES("\xe9"),
     BYTES("/"), BYTES("GET\r"), BYTES("GET "), BYTES(" GET"), BYTES("G\tT"), BYTES("G,"),
-    BYTES("\x7f"), BYTES("\0"), BYTES("GET\0"), BYTES("\t"), BYTES("{"), BYTES("[")
+    BYTES("\x7f"), BYTES("\0"), BYTES("GET\0"), BYTES("\t"), BYTES("{"), BYTES("["),
+    BYTES(";"), BYTES("GET;")
 };
 
 static const struct bytes SEGMENTS[] = {
     BYTES("a"), BYTES("b"), BYTES("ab"), BYTES("a.b"), BYTES("x.a"), BYTES("x.csv"),
     BYTES("q0"), BYTES("q1"), BYTES("q12"), BYTES("q0.a"), BYTES("*"), BYTES("a*"), BYTES(""),
     BYTES(".a"), BYTES("a."), BYTES(".."), BYTES("\xe9"), BYTES("\xff\x80"), BYTES("a b"),
-    BYTES("a;b"), BYTES("longsegm-A-x"), BYTES("longsegm-B-x"), BYTES("*.a"), BYTES("aq2"),
+    BYTES("a=b"), BYTES("longsegm-A-x"), BYTES("longsegm-B-x"), BYTES("*.a"), BYTES("aq2"),
     BYTES("x.longextension-1"), BYTES(".sevenby"), BYTES("q"), BYTES("q01"), BYTES("Q0")
 };
 
@@ -134,7 +136,18 @@ static const struct bytes BAD_PATTERNS[] = {
     BYTES("/\t"), BYTES("/a\r"), BYTES("*.a*"), BYTES("*.longextension.x"),
     BYTES("*.longextension/*"), BYTES("/" X64 X64 X64 X16 X16 X16 "xxxxxxxxxxxxxxx"),
     BYTES("*.abcdefgh*"), BYTES("*.abcdefg*"), BYTES("*.abcdef*"), BYTES("/* "),
-    BYTES("/" X256), BYTES("/a\x01"), BYTES(".a"), BYTES("\xe9"), BYTES("*..a"), BYTES("*.a.")
+    BYTES("/" X256), BYTES("/a\x01"), BYTES(".a"), BYTES("\xe9"), BYTES("*..a"), BYTES("*.a."),
+    /* a `;` in every place, of every kind but for it */
+    BYTES(";"), BYTES("/;"), BYTES("/a;b"), BYTES("/a;/b"), BYTES("/a/b;"), BYTES("/;/*"),
+    BYTES("/a;s=1/*"), BYTES("/;*"), BYTES(";/*"), BYTES("*.;"), BYTES("*.a;b"), BYTES("*;.a"),
+    BYTES("/" X64 X64 X64 X16 X16 X16 "xxxxxxxxxxxxx;")
+};
+
+/* What a path may hold and matching drops. */
+static const struct bytes PARAMETERS[] = {
+    BYTES(";s=12"), BYTES(";"), BYTES(";x"), BYTES(";a;b"), BYTES(";;"), BYTES(";.a"),
+    BYTES(";x.csv"), BYTES(";v=1.b"), BYTES("; "), BYTES(";*"), BYTES(";\xe9\xff"), BYTES(";q0"),
+    BYTES(";..;."), BYTES(";a=%2Fb")
 };
 
 /* Lines to throw in at any place. */
@@ -148,12 +161,13 @@ static const struct bytes LINES[] = {
     BYTES("constraint"), BYTES("constraint\t"), BYTES("END"), BYTES("end "), BYTES(" end"),
     BYTES("roles\ta"), BYTES("\trole"), BYTES("constraint\topen\t"), BYTES("constraint\tOPEN"),
     BYTES("collections"), BYTES("collectio"), BYTES("end\r"), BYTES("\r"), BYTES("#"),
-    BYTES("role\t*"), BYTES("allow\t**"), BYTES("method\t*"), BYTES("omit\t*"), BYTES("pattern\t*")
+    BYTES("role\t*"), BYTES("allow\t**"), BYTES("method\t*"), BYTES("omit\t*"), BYTES("pattern\t*"),
+    BYTES("pattern\t/a;b"), BYTES("pattern\t;"), BYTES("role\ta;b"), BYTES("allow\t;"), BYTES("method\tG;T")
 };
 
 static const uint8_t ODD_BYTES[] = {
     0, 1, 8, 9, 10, 11, 12, 13, 31, 32, 33, 42, 46, 47, 48, 65, 97, 113, 126, 127, 128, 129,
-    159, 160, 254, 255, 239, 187, 191, 10, 9, 32
+    159, 160, 254, 255, 239, 187, 191, 10, 9, 32, 59
 };
 
 /* ----------------------------------------------------------------- a tree */
@@ -978,6 +992,43 @@ static void make_path(struct rng *r, const struct taste *t, const struct out *li
         }
 }
 
+/* A place for a parameter: most often a segment's end. */
+static size_t a_parameter_place(struct rng *r, const struct out *o)
+{
+    if (o->length == 0 || chance(r, 2))
+        return 0;
+    size_t at = 1 + below(r, (unsigned)o->length);
+    unsigned k = below(r, 100);
+    if (k < 65)
+        while (at < o->length && o->at[at] != '/')
+            at++;
+    else if (k < 80)                                   /* behind a `/` */
+        while (at > 1 && o->at[at - 1] != '/')
+            at--;
+    return at;
+}
+
+/* Parameters in a path.  A long one takes it to the edge, and leaves it as
+ * short as it was. */
+static void put_parameters(struct rng *r, struct out *o)
+{
+    for (unsigned n = 1 + below(r, 3); n > 0; n--) {
+        struct bytes b = PARAMETERS[below(r, COUNT(PARAMETERS))];
+        splice(o, a_parameter_place(r, o), 0, b.at, b.length);
+    }
+    if (chance(r, 4)) {                                /* an odd byte, in one of them or not */
+        uint8_t odd = ODD_BYTES[below(r, COUNT(ODD_BYTES))];
+        splice(o, below(r, (unsigned)o->length + 1), 0, &odd, 1);
+    }
+    size_t want = 1023 + below(r, 3);
+    if (chance(r, 12) && o->length < want) {
+        uint8_t pad[1100];
+        memset(pad, 'x', sizeof pad);
+        pad[0] = ';';
+        splice(o, a_parameter_place(r, o), 0, pad, want - o->length);
+    }
+}
+
 static void make_method(struct rng *r, const struct taste *t, const struct out *listing,
                         struct out *o)
 {
@@ -1322,6 +1373,11 @@ void generate_case(uint64_t seed, struct generated *g)
         g->roles_len = c.length;
     }
     make_buffers(r, g);
+    if (g->kind == GENERATED_DECIDE && chance(r, 30)) {
+        struct out p = { g->path, g->path_len, GENERATED_PATH };
+        put_parameters(r, &p);
+        g->path_len = p.length;
+    }
 }
 
 /* ------------------------------------------------------------ small things */
@@ -1434,6 +1490,10 @@ static const char *const ASKED[][3] = {
     { "/a/x\x01" "csv", "GET", "a\n" },
     { "/a\x01" "b", "GET", "a\n" },
     { "/a/\x01", "PUT", "b\n" },
+    { "/a;\x01/b/c", "GET", "a\n" },
+    { "/a/b;x\x01", "GET", "a\n" },
+    { "/a/b\x01;x/c", "GET", "a\n" },
+    { "/x.csv;\x01y", "GET", "c\n" },
     { "/a", "\x01", "a\n" },
     { "/a", "GE\x01", "a\n" },
     { "/a", "\x01" "ET", "a\n" },
@@ -1466,7 +1526,10 @@ static const char *const PAIR_PATHS[] = {
     "/x.b.a", "/x.", "/.", "/a/*", "/a//", "/a//b", "/*/x", "/*/", "/\xe9", "/\xe9/x.\xe9",
     "/x.\xe9", "/*.a", "/a/*.a", "/longprefix-with-more", "/longprefix-with-more/",
     "/longprefix-with-more/b", "/longprefix-with-mor", "/longprefix-with-more.longextension",
-    "/x.longextension", "/a;b", "/x.sevenby", "/x.eightbyt", "/a/b*", "/a/b/x.longextension"
+    "/x.longextension", "/a;b", "/x.sevenby", "/x.eightbyt", "/a/b*", "/a/b/x.longextension",
+    "/;", "/;x", "/;/", "/;x/;y", "/a;", "/a;/", "/a;/b", "/a;x/b", "/a/b;x", "/a;x;y/b;z", "/a;;/b/;",
+    "/a/;x", "/;x/a", "/x.a;b", "/x.a;.b", "/x;.a", "/x.b;x.a", "/x.a;/", "/x.;a", "/a/x;y.a", "/a;x.b/x.a",
+    "/longprefix-with-more;x/b", "/longprefix;-with-more/b", "/\xe9;\xe9/x", "/a;*", ";/", ";", ";/a", "/a;/*"
 };
 
 /* Rules on one pattern, for comparing. */
@@ -1496,7 +1559,7 @@ enum {
     BUFFER_CASES = 3 * 6 * 4,
     CALLER_CASES = 8 * 36,
     LENGTH_PAIRS = 70 * 5 * 5 * 4,
-    LENGTHS = 3 * 1100
+    LENGTHS = 5 * 1100
 };
 
 size_t generate_small_count(void)
@@ -1675,7 +1738,7 @@ void generate_small(size_t i, struct generated *g)
     }
     i -= LENGTH_PAIRS;
     {
-        /* a path, a method or a name of every length */
+        /* a path, a method, a name or parameters of every length */
         size_t length = i % 1100;
         g->kind = GENERATED_DECIDE;
         puts_(&o, ASKED_OF);
@@ -1691,6 +1754,21 @@ void generate_small(size_t i, struct generated *g)
             puts_(&p, "/");
             for (size_t k = 0; k < length % 50; k++)
                 put1(&m, 'G');
+            break;
+        case 2:
+            /* one parameter takes the path to that length */
+            puts_(&p, "/a/b");
+            puts_(&m, "GET");
+            puts_(&c, "a\n");
+            for (size_t k = 0; k < length; k++)
+                put1(&p, k == 0 ? ';' : k % 7 == 3 ? '.' : 'c');
+            break;
+        case 3:
+            /* a parameter in every segment */
+            puts_(&m, "GET");
+            puts_(&c, "a\n");
+            for (size_t k = 0; k < length; k++)
+                put1(&p, k % 5 == 0 ? '/' : k % 5 == 2 ? ';' : 'a');
             break;
         default:
             puts_(&p, "/a/b");

@@ -1,8 +1,9 @@
-/* second.c: 01-scope.md, sentence by sentence.
+/* second.c: 01-scope.md, sentence by sentence, with Item 1 of
+ * 02-change-requests.md.
  *
- * Every rule stands under the sentence of 01 it follows, quoted.  Where 01
- * leaves a choice the comment says "Choice:".  ("=>" stands for the tab that
- * 01 prints as an arrow.)
+ * Every rule stands under the sentence of 01 it follows, quoted; one of 02
+ * says so.  Where 01 leaves a choice the comment says "Choice:".  ("=>" stands
+ * for the tab that 01 prints as an arrow.)
  */
 #include "second.h"
 
@@ -161,6 +162,10 @@ static enum pattern_kind kind_of(struct text t)
     if (!all_text_bytes(t))
         return BAD_PATTERN;
     if (t.length > 0 && t.at[t.length - 1] == ' ')
+        return BAD_PATTERN;
+    /* 02, Item 1: "no pattern may hold a `;` now.  Refusals: a pattern with
+     *  `;` gives 7." */
+    if (occurs_inside(literal(";"), t))
         return BAD_PATTERN;
     /* "empty: matches the path `/` only, as an exact match." */
     if (t.length == 0)
@@ -711,14 +716,37 @@ static uint32_t answer_for(const struct listing *l, const struct combined *c,
     return SECOND_ROLE_LACKING;
 }
 
-/* 11: "A request is a path (1 to 1,024 text bytes, first `/`)" */
+/* "1 to 1,024 text bytes" */
+enum { MOST_PATH_BYTES = 1024 };
+
+/* 11: "A request is a path (1 to 1,024 text bytes, first `/`)".  02, Item 1:
+ * "the 1,024 limit counts the bytes before dropping".  Choice: the text bytes
+ * and the first `/` are looked at before dropping too. */
 static int is_path(struct text path)
 {
-    if (path.length < 1 || path.length > 1024)
+    if (path.length < 1 || path.length > MOST_PATH_BYTES)
         return 0;
     if (path.at[0] != '/')
         return 0;
     return all_text_bytes(path);
+}
+
+/* 02, Item 1: "In every segment drop the bytes from the first `;` up to the
+ *  next `/` or the end, then match".  The path without them, in a place of
+ * MOST_PATH_BYTES; it may be shorter. */
+static struct text without_parameters(struct text path, uint8_t *place)
+{
+    size_t length = 0;
+    int dropping = 0;
+    for (size_t i = 0; i < path.length; i++) {
+        if (path.at[i] == ';')
+            dropping = 1;
+        if (path.at[i] == '/')
+            dropping = 0;
+        if (!dropping)
+            place[length++] = path.at[i];
+    }
+    return piece(place, length);
 }
 
 /* 13: "bad caller (bad name, `*`, over 32 names, a last name unended, names
@@ -816,8 +844,10 @@ struct second_decision second_decide(const uint8_t *listing, size_t listing_len,
     if (!take_caller(login, piece(roles, roles_len), &who))
         return decision(13, 0, 0, 0);
 
+    uint8_t place[MOST_PATH_BYTES];
+    struct text matched_path = without_parameters(request_path, place);
     struct text best = piece(path, 0);
-    int has_best = best_pattern(&l, request_path, &best);
+    int has_best = best_pattern(&l, matched_path, &best);
     struct combined c = combine(&l, has_best, best, request_method);
     /* "Without a refusal number, side and line are 0." */
     return decision(0, 0, 0, answer_for(&l, &c, &who));
@@ -1045,11 +1075,12 @@ static void compare_listings(const struct listing *old_l, const struct listing *
     add_role_callers(&t, new_l);
     add_role_callers(&t, old_l);
 
-    /* "Paths vary slowest, callers fastest."  Each trial is decided on both
-     * listings by the three steps of second_decide; the best pattern depends
-     * on the path alone and the combined rule on path and method alone, so
-     * those two steps stand outside the inner loops.  A trial that new grants
-     * and old doesn't makes new wider; the first one is shown. */
+    /* "Paths vary slowest, callers fastest."  02, Item 1: "Trial paths stay: no
+     *  pattern may hold a `;` now", so there is nothing to drop.  Each trial is
+     * decided on both listings by the last three steps of second_decide; the
+     * best pattern depends on the path alone and the combined rule on path and
+     * method alone, so those two steps stand outside the inner loops.  A trial
+     * that new grants and old doesn't makes new wider; the first one is shown. */
     for (size_t p = 0; p < t.paths; p++) {
         struct text path = text_of(&t.path[p]);
         struct text old_best = piece(path.at, 0), new_best = piece(path.at, 0);

@@ -1,4 +1,5 @@
-/* second.h: the literal implementation of 01-scope.md.  Readable beats fast. */
+/* second.h: the literal implementation of 01-scope.md and of Item 1 of
+ * 02-change-requests.md.  Readable beats fast. */
 #ifndef SECOND_H
 #define SECOND_H
 

@@ -9,7 +9,9 @@
  * - Names are kept in small hash tables by their first and last eight bytes;
  *   a name found there was checked before.  Only new names go through the
  *   class table.
- * - Deciding matches each pattern when it passes by and keeps no patterns.
+ * - Deciding matches each pattern when it passes by and keeps no patterns.  A
+ *   path without a `;` is matched where it stands, another one copied without
+ *   its parameters.
  * - Comparing gives every pattern text a row: for each method of its listing
  *   (column 31: any other method) the set of granted roles, and whether it is
  *   open.  Of the filler it only needs to know that no pattern holds it, so
@@ -30,7 +32,7 @@
 #define LIKELY(x) __builtin_expect(!!(x), 1)
 #define UNLIKELY(x) __builtin_expect(!!(x), 0)
 
-enum { WORK_NUMBERS = 4096, LEAST_ANSWER = 1024, MOST_BYTES = 24576 };
+enum { WORK_NUMBERS = 4096, LEAST_ANSWER = 1024, MOST_BYTES = 24576, MOST_PATH_BYTES = 1024 };
 
 /* ------------------------------------------------------------ class table */
 
@@ -123,6 +125,12 @@ INLINE uint64_t no_text_marks(uint64_t x)
 {
     uint64_t y = x ^ EACH(127);
     return (((x - EACH(32)) & ~x) | ((y - ONES) & ~y)) & TOPS;
+}
+
+/* Likewise of the first byte that no pattern holds: no text, or `;`. */
+INLINE uint64_t no_pattern_marks(uint64_t x)
+{
+    return no_text_marks(x) | marks(x, ';');
 }
 
 INLINE size_t first_mark(uint64_t z)
@@ -279,7 +287,7 @@ INLINE int extension_ok(const uint8_t *e, size_t n)
     return 1;
 }
 
-/* The kind of a pattern whose bytes are text. */
+/* The kind of a pattern whose bytes are text, none a `;`. */
 INLINE enum kind kind_of(const uint8_t *s, size_t n)
 {
     if (UNLIKELY(n > 255))
@@ -493,7 +501,7 @@ COLD uint32_t fault(const uint8_t *text, const uint8_t *p, uint32_t at,
         return 6;
     if (may == FOR_PATTERN) {
         for (size_t i = 0; i < len; i++)
-            if (!(CLASS[s[i]] & TEXT))
+            if (!(CLASS[s[i]] & TEXT) || s[i] == ';')
                 return 7;
         if (kind_of(s, len) == BAD)
             return 7;
@@ -611,7 +619,7 @@ INLINE uint32_t walk(const uint8_t *text, size_t length, enum mode mode,
                 goto wrong;
             const uint8_t *s = p + 8, *t = s;
             uint64_t z;
-            while ((z = no_text_marks(peek(t, end))) == 0)
+            while ((z = no_pattern_marks(peek(t, end))) == 0)
                 t += 8;
             t += first_mark(z);
             if (*t != 10 || patterns++ == 128)
@@ -750,18 +758,45 @@ struct yardstick_report yardstick_read(const uint8_t *listing, size_t listing_le
 
 /* --------------------------------------------------------------- deciding */
 
-static int path_ok(const uint8_t *s, size_t n)
+/* Whether the path is good, as received; and whether a `;` is in it. */
+static int path_ok(const uint8_t *s, size_t n, uint64_t *parameters)
 {
-    if (n < 1 || n > 1024 || s[0] != '/')
+    if (n < 1 || n > MOST_PATH_BYTES || s[0] != '/')
         return 0;
-    size_t i = 0;
-    for (; i + 8 <= n; i += 8)
-        if (no_text_marks(load8(s + i)) != 0)
-            return 0;
-    for (; i < n; i++)
-        if (!(CLASS[s[i]] & TEXT))
-            return 0;
-    return 1;
+    uint64_t bad = 0, found = 0;
+    if (n < 8) {
+        for (size_t i = 0; i < n; i++) {
+            bad |= !(CLASS[s[i]] & TEXT);
+            found |= s[i] == ';';
+        }
+    } else {
+        for (size_t i = 0; i + 8 < n; i += 8) {
+            uint64_t x = load8(s + i);
+            bad |= no_text_marks(x);
+            found |= marks(x, ';');
+        }
+        uint64_t x = load8(s + n - 8);
+        bad |= no_text_marks(x);
+        found |= marks(x, ';');
+    }
+    *parameters = found;
+    return bad == 0;
+}
+
+/* Copies a path without its parameters; gives its length. */
+static __attribute__((noinline)) size_t drop_parameters(uint8_t *to, const uint8_t *s, size_t n)
+{
+    const uint8_t *end = s + n, *mark;
+    uint8_t *t = to;
+    while ((mark = memchr(s, ';', (size_t)(end - s))) != NULL) {
+        memcpy(t, s, (size_t)(mark - s));
+        t += mark - s;
+        s = memchr(mark, '/', (size_t)(end - mark));
+        if (s == NULL)
+            return (size_t)(t - to);
+    }
+    memcpy(t, s, (size_t)(end - s));
+    return (size_t)(t - to) + (size_t)(end - s);
 }
 
 /* The name of n bytes at s, with nothing known of the bytes around it. */
@@ -823,7 +858,13 @@ struct yardstick_decision yardstick_decide(const uint8_t *listing, size_t listin
 
     struct names role_names, method_names;
     struct query q;
-    int good_path = path_ok(path, path_len);
+    uint64_t parameters = 0;
+    int good_path = path_ok(path, path_len, &parameters);
+    uint8_t dropped[MOST_PATH_BYTES];
+    if (good_path && UNLIKELY(parameters != 0)) {
+        path_len = drop_parameters(dropped, path, path_len);
+        path = dropped;
+    }
     memset(&q, 0, sizeof q);
     q.path = path;
     q.path_len = good_path ? path_len : 0;

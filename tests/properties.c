@@ -2,7 +2,9 @@
  * verdict its own too. properties SEED CASES; exit 1, with the seed and the case, at the first property that fails. On the seeded cases of agree.c:
  *   - a pair that compares as no wider: none of PER_PAIR requests is granted by new and denied by old;
  *   - a pair that compares as wider: the shown request is granted by new and denied by old, and on its path no earlier method or caller is;
- *   - a single listing: a caller who logs in, or gets further names, never loses a grant, and a name said again changes nothing. */
+ *   - a single listing: a caller who logs in, or gets further names, never loses a grant, and a name said again changes nothing;
+ *   - a single listing: a path without parameters is answered the same with parameters put behind its segments. Every path with parameters is
+ *     such a one, made of the path that dropping them leaves: so a request is answered as its dropped path is. */
 #include <inttypes.h>
 #include <stdio.h>
 #include <stdlib.h>
@@ -30,7 +32,7 @@ static struct request q;
 static struct fields patterns, extensions, methods, names;
 static uint32_t work[WORK];
 static uint64_t state, seed, at;
-static unsigned long no_wider, wider, listings, requests, granted, denied_by_old, earlier, widened;
+static unsigned long no_wider, wider, listings, requests, granted, denied_by_old, earlier, widened, marked;
 
 static unsigned below(unsigned n) {
     uint64_t z = state += 0x9e3779b97f4a7c15u;
@@ -101,7 +103,7 @@ static void start_path(void) {
 }
 
 static void lengthen_path(void) {
-    static const char *const tails[] = { "/", "/q0", "/q7", "/x", ".", "x", "/*", "..", "//", ";a", "/.", "*" };
+    static const char *const tails[] = { "/", "/q0", "/q7", "/x", ".", "x", "/*", "..", "//", "=a", "/.", "*" };
     switch (below(6)) {
     case 0:
     case 1:
@@ -156,7 +158,7 @@ static void bend_path(void) {
     }
 }
 
-static void make_path(void) {
+static void make_plain_path(void) {
     start_path();
     for (unsigned n = below(3); n > 0; n--) lengthen_path();
     if (below(10) < 3) bend_path();
@@ -164,6 +166,32 @@ static void make_path(void) {
         memmove(q.path + 1, q.path, q.path_len < 1024 ? q.path_len++ : 1023);
         q.path[0] = '/';
     }
+}
+
+/* A `;` and up to seven bytes, none of them a `/`; now and then as many as there is room for. */
+static void add_parameter(uint8_t *to, size_t *length, size_t most) {
+    static const char bytes[] = ";.=aq0*%x \xe9";
+    size_t n = below(20) > 0 ? below(8) : most;
+    add(to, length, most, text_of(";"));
+    for (; n > 0 && *length < most; n--) to[(*length)++] = (uint8_t)bytes[below(sizeof bytes - 1)];
+}
+
+/* Parameters behind some of the segments, as far as a path has room. */
+static void mark_path(void) {
+    uint8_t plain[1024];
+    size_t n = q.path_len, at_most = 1 + below(4);
+    memcpy(plain, q.path, n);
+    q.path_len = 0;
+    for (size_t i = 0; i < n; i++) {
+        q.path[q.path_len++] = plain[i];
+        int ends = i + 1 == n || plain[i + 1] == '/';
+        if (ends && at_most > 0 && below(2) > 0) add_parameter(q.path, &q.path_len, 1024 - (n - i - 1)), at_most--;
+    }
+}
+
+static void make_path(void) {
+    make_plain_path();
+    if (below(4) == 0) mark_path();
 }
 
 static void make_method(void) {
@@ -322,6 +350,20 @@ static void check_callers(void) {
     }
 }
 
+static void check_parameters(void) {
+    for (unsigned i = 0; i < PER_LISTING; i++) {
+        make_plain_path();
+        make_method();
+        make_caller();
+        uint32_t answer = ask(c.listing, c.listing_len);
+        for (unsigned n = 0; n < 2; n++) { /* the second time behind parameters that are there */
+            mark_path();
+            marked++;
+            if (ask(c.listing, c.listing_len) != answer) fail("parameters changed the answer");
+        }
+    }
+}
+
 static void check_case(void) {
     static uint8_t answer[1024];
     state = seed * 0x2545f4914f6cdd1du + at;
@@ -330,6 +372,7 @@ static void check_case(void) {
         if (c.listing_len > MOST_LISTING || second_read(c.listing, c.listing_len, work, WORK).number != 0) return;
         collect(c.listing, c.listing_len);
         check_callers();
+        check_parameters();
         return;
     }
     /* a listing compared with itself would tell nothing, and large pairs would take most of the time */
@@ -353,7 +396,8 @@ int main(int argc, char **argv) {
         check_case();
     }
     printf("seed %" PRIu64 ": %lu pairs no wider, %lu requests (%lu granted by new, %lu denied by old), none wider; %lu pairs wider, each by the "
-           "shown request, and by none of %lu before it; %lu listings, no grant lost with a login or a name (%lu won)\n",
-           seed, no_wider, requests, granted, denied_by_old, wider, earlier, listings, widened);
+           "shown request, and by none of %lu before it; %lu listings, no grant lost with a login or a name (%lu won), no answer changed by the "
+           "parameters of %lu paths\n",
+           seed, no_wider, requests, granted, denied_by_old, wider, earlier, listings, widened, marked);
     return 0;
 }

@@ -1,5 +1,6 @@
-/* typed.c: what 01 says of some 1,300 inputs, typed from its text and not computed by either program, asked of the proved archive and of the second
- * implementation. Each call gets buffers full of garbage; the whole of them is looked at afterwards. Exit 1 where one of the two differs. */
+/* typed.c: what 01 and Item 1 of 02 say of some 2,400 inputs, typed from their text and not computed by either program, asked of the proved archive
+ * and of the second implementation. Each call gets buffers full of garbage; the whole of them is looked at afterwards. Exit 1 where one of the two
+ * differs. */
 #include <stdio.h>
 #include <string.h>
 #include "../include/budquarry.h"
@@ -104,10 +105,12 @@ static void fields_and_names(void) {
 }
 
 static void patterns(void) {
-    static const char *const bad[] = { "*.a.b", "*.", "*", "a", " /a", "*.a/b", "*.a*", "/a ", "*.a ", " ", "**", "*/", "*.*" };
-    static const char *const good[] = { "/a*", "/**", "/*.csv", "//", "//*", "/*/*", "/", "", "*.a", "*. a", "/ a", "/;" };
+    static const char *const bad[] = { "*.a.b", "*.", "*", "a", " /a", "*.a/b", "*.a*", "/a ", "*.a ", " ", "**", "*/", "*.*",
+                                       ";", "/;", ";/", "/a;", "/a;b", "/a;/b", "/a/b;c", "/;/*", "/a;s=1/*", "/a/;*", "*.;", "*.a;", "*.a;b", "*;.a" };
+    static const char *const good[] = { "/a*", "/**", "/*.csv", "//", "//*", "/*/*", "/", "", "*.a", "*. a", "/ a", "/:" };
     char b[300];
     many(b, '/', 255), pattern(b, 0);
+    b[254] = ';', pattern(b, 7);
     many(b, '/', 256), pattern(b, 7);
     for (size_t i = 0; i < sizeof bad / sizeof *bad; i++) pattern(bad[i], 7);
     for (size_t i = 0; i < sizeof good / sizeof *good; i++) pattern(good[i], 0);
@@ -157,6 +160,11 @@ static void orders_and_ends(void) {
     text(FIRST "role\t ", 4, 2), text(FIRST "constraint\tauth\npattern\ta\n", 5, 3), text(FIRST "role\ta\nrole\ta\n", 9, 3);
     text(FIRST, 10, 2), text(FIRST "role\ta\n", 10, 3), text(NOTHING "\n", 10, 3), text(NOTHING "x", 10, 3), text(NOTHING "end\n", 10, 3);
     text(FIRST "end", 4, 2), text(FIRST AUTH "end\n", 5, 4);
+    /* a `;` in a pattern is 7 at its line, behind 4 and 5 and the lines before */
+    text(FIRST AUTH "pattern\t/;\tb\n", 4, 4), text(FIRST AUTH "pattern\t/;", 4, 4), text(FIRST "constraint\tauth\npattern\t/;\n", 5, 3);
+    text(FIRST AUTH "pattern\t/a\npattern\t/b;\nmethod\t(\n", 7, 5), text(FIRST "role\ta\nrole\ta\n" AUTH "pattern\t/;\n", 9, 3);
+    text(NOTHING "pattern\t/;\n", 10, 3), text(FIRST "role\ta;b\nrole\t;\nend\n", 0, 0), text(FIRST "role\t;\nrole\t;\n", 9, 3);
+    text(FIRST AUTH "pattern\t/a\nmethod\tG;\n", 6, 5);
 }
 
 /* ---- deciding */
@@ -180,11 +188,11 @@ static void asks(const char *listing, const char *path, const char *method, uint
 
 static void grants(const char *names, uint32_t number) { asks(NOTHING, "/", "G", 1, names, number, number == 0); }
 
-/* each byte value in a role name, a method line, a path and a method */
+/* each byte value in a role name, a method line, a pattern, a path, a parameter and a method */
 static void classes(void) {
     static const char others[] = "!#$%&'*+-.^_`|~";
     for (int b = 0; b < 256; b++) {
-        char s[200], path[] = "/-x", method[] = "G-x";
+        char s[200], path[] = "/-x", method[] = "G-x", parameter[] = "/a;x-y";
         int is_text = (b >= 32 && b <= 126) || b >= 128;
         int is_token = (b >= 'A' && b <= 'Z') || (b >= 'a' && b <= 'z') || (b >= '0' && b <= '9') || (b && strchr(others, b));
         uint32_t parted = b == 9 || b == 10 ? 4 : 6; /* a tab makes a field more, a byte 10 a line that is no record */
@@ -194,8 +202,13 @@ static void classes(void) {
         n = sprintf(s, FIRST AUTH "pattern\t/a\nmethod\tA-A\nend\n");
         s[n - 7] = (char)b;
         reads("a byte of a method line", s, (size_t)n, is_token ? 0 : parted, is_token ? 0 : b == 10 ? 6 : 5);
-        path[1] = method[1] = (char)b;
+        n = sprintf(s, FIRST AUTH "pattern\t/a-a\nend\n");
+        s[n - 7] = (char)b;
+        reads("a byte of a pattern", s, (size_t)n, is_text && b != ';' ? 0 : parted == 4 ? 4 : 7, is_text && b != ';' ? 0 : b == 10 ? 5 : 4);
+        path[1] = method[1] = parameter[4] = (char)b;
         decides("a byte of a path", NOTHING, path, 3, "G", 1, 0, "", is_text ? 0 : 11, (uint32_t)is_text);
+        /* all of it is dropped, but a `/` and what follows that */
+        decides("a byte of a parameter", FIRST AUTH "pattern\t/a\nend\n", parameter, 6, "G", 1, 0, "", is_text ? 0 : 11, !is_text ? 0 : b == '/' ? 1 : 3);
         decides("a byte of a method", NOTHING, "/", 1, method, 3, 0, "", is_token ? 0 : 12, (uint32_t)is_token);
     }
 }
@@ -246,6 +259,49 @@ static void matching_and_combining(void) {
     asks(FIRST ALLOW("r") "pattern\t/a\n" OPEN "pattern\t/a\nend\n", "/a", "P", 0, "", 0, 1);
 }
 
+/* "In every segment drop the bytes from the first `;` up to the next `/` or the end, then match": each path as the one beside it, by what closes it alone
+ * and by a listing in which every kind of pattern has a role of its own */
+static void parameters(void) {
+    static const struct { const char *path, *dropped; } as[] = {
+        { "/a;", "/a" }, { "/a;x", "/a" }, { "/a;x=1;y=2", "/a" }, { "/a;;", "/a" }, { "/a;x.csv", "/a" }, { "/a;*", "/a" }, { "/a; \x80\xff", "/a" },
+        { "/a;x/b", "/a/b" }, { "/a;/b", "/a/b" }, { "/a;x;y/b;z", "/a/b" }, { "/a/b;a/", "/a/b/" }, { "/a;/b;/", "/a/b/" }, { "/a;x/b/c", "/a/b/c" },
+        { "/;", "/" }, { "/;x", "/" }, { "/;/", "//" }, { "/;x/;y", "//" }, { "/;x/a", "//a" }, { "/a/;x", "/a/" }, { "/a/;x/b", "/a//b" }, { "/a/;b", "/a/" },
+        { "/x.csv;v=1", "/x.csv" }, { "/x.csv;.b", "/x.csv" }, { "/x.c;v=1sv", "/x.c" }, { "/x;v=1.csv", "/x" }, { "/x.;csv", "/x." }, { "/x.csv;/", "/x.csv/" },
+        { "/x;.b/y.csv", "/x/y.csv" }, { "/x.csv;/y.b;", "/x.csv/y.b" }, { "/clock/offset;s=12", "/clock/offset" }, { "/clo;ck/offset", "/clo/offset" },
+        { "/a%3Bx", "/a%3Bx" }, { "/a=b;c", "/a=b" } };
+    static const char *const texts[] = { "", "/", "/*", "//*", "/a", "/a/*", "/a/b", "/a/b/*", "/a/b/c", "*.csv", "*.c", "*.b", "/clock/offset", "/a/", "/x" };
+    /* which text of these is best for the dropped path, read off 01: by its place, or none of them */
+    static const struct { const char *dropped; int best; } best[] = {
+        { "/a", 4 }, { "/a/b", 6 }, { "/a/b/", 7 }, { "/a/b/c", 8 }, { "/", 0 }, { "//", 3 }, { "//a", 3 }, { "/a/", 13 }, { "/a//b", 5 }, { "/x.csv", 2 }, { "/x.c", 2 },
+        { "/x", 14 }, { "/x.", 2 }, { "/x.csv/", 2 }, { "/x/y.csv", 2 }, { "/x.csv/y.b", 2 }, { "/clock/offset", 12 }, { "/clo/offset", 2 }, { "/a%3Bx", 2 }, { "/a=b", 2 } };
+    enum { TEXTS = sizeof texts / sizeof *texts };
+    char s[2000] = FIRST, closing[400], name[8], b[1100];
+    for (int k = 0; k < TEXTS; k++) sprintf(s + strlen(s), "constraint\tauth\nallow\tr%d\ncollection\npattern\t%s\n", k, texts[k]);
+    strcat(s, "end\n");
+    for (size_t i = 0; i < sizeof as / sizeof *as; i++) {
+        sprintf(closing, FIRST AUTH "pattern\t%s\nend\n", strcmp(as[i].dropped, "/") ? as[i].dropped : "");
+        asks(closing, as[i].path, "G", 0, "", 0, 3);
+        size_t k = 0;
+        while (strcmp(best[k].dropped, as[i].dropped)) k++;
+        for (int r = 0; r < TEXTS; r++) sprintf(name, "r%d\n", r), asks(s, as[i].path, "G", 1, name, 0, r == best[k].best ? 2 : 5);
+    }
+    /* extensions, which the prefix of all above beats */
+    asks(FIRST AUTH "pattern\t*.csv\nend\n", "/x.csv;v=1.b", "G", 0, "", 0, 3), asks(FIRST AUTH "pattern\t*.csv\nend\n", "/x.c;v=1sv", "G", 0, "", 0, 1);
+    asks(FIRST AUTH "pattern\t*.csv\nend\n", "/x;v=1.csv", "G", 0, "", 0, 1), asks(FIRST AUTH "pattern\t*.csv\nend\n", "/x;.b/y.csv;", "G", 0, "", 0, 3);
+    asks(FIRST AUTH "pattern\t*.csv\nend\n", "/x.csv;/", "G", 0, "", 0, 1), asks(FIRST AUTH "pattern\t*.csv\nend\n", "/;.csv", "G", 0, "", 0, 1);
+    /* "the 1,024 limit counts the bytes before dropping", and 11 is of the path as received */
+    many(b, 'x', 1025), memcpy(b, "/a;", 3);
+    decides("1,024 bytes, 2 after dropping", FIRST AUTH "pattern\t/a\nend\n", b, 1024, "G", 1, 0, "", 0, 3);
+    decides("1,025 bytes, 2 after dropping", FIRST AUTH "pattern\t/a\nend\n", b, 1025, "G", 1, 0, "", 11, 0);
+    b[1023] = '/';
+    decides("1,024 bytes, 3 after dropping", FIRST AUTH "pattern\t/a/\nend\n", b, 1024, "G", 1, 0, "", 0, 3);
+    asks(NOTHING, ";/", "G", 0, "", 11, 0), asks(NOTHING, ";", "G", 0, "", 11, 0), asks(NOTHING, "/;\t", "G", 0, "", 11, 0), asks(NOTHING, "/", "G;", 0, "", 12, 0);
+    asks(FIRST AUTH "pattern\t/;\nend\n", ";", "", 9, "x", 7, 0);
+    /* names keep their `;` */
+    asks(FIRST ALLOW("a;b") "pattern\t/\nend\n", "/x", "G", 1, "a;b\n", 0, 2), asks(FIRST ALLOW("a;b") "pattern\t/\nend\n", "/x", "G", 1, "a\n", 0, 5);
+    asks(FIRST ALLOW("a") "pattern\t/\nend\n", "/x", "G", 1, "a;b\n", 0, 5), asks(FIRST ALLOW(";") "pattern\t/\nend\n", "/x", "G", 1, ";\n", 0, 2);
+}
+
 /* ---- comparing */
 
 static void compares(const char *what, const char *old, size_t old_len, const char *new, size_t new_len, uint32_t number, uint32_t side, uint32_t line, const char *answer) {
@@ -286,6 +342,7 @@ static void short_buffers(void) {
     answer_len = 1024, compares("2 of old", s, sizeof s, "x", 1, 2, 1, 0, "");
     compares("10 of old before 2 of new", FIRST, strlen(FIRST), s, sizeof s, 10, 1, 2, ""), compares("2 of new", NOTHING, strlen(NOTHING), s, sizeof s, 2, 2, 0, "");
     answer_len = 2000, refuses(NOTHING, FIRST "role\t*\nend\n", 6, 2, 2), refuses(FIRST "foo\n", FIRST "bar", 4, 1, 2);
+    refuses(FIRST AUTH "pattern\t/;\nend\n", FIRST "bar", 7, 1, 4), refuses(NOTHING, FIRST AUTH "pattern\t/a\npattern\t/a;b\nend\n", 7, 2, 5);
 }
 
 static void verdicts(void) {
@@ -322,8 +379,8 @@ static void tops(void) {
 
 int main(void) {
     first_lines(), places(), fields_and_names(), patterns(), limits(), orders_and_ends();
-    classes(), requests(), at_root(), matching_and_combining();
+    classes(), requests(), at_root(), matching_and_combining(), parameters();
     short_buffers(), verdicts(), tops();
-    printf("typed: %d of %d cases are as 01 says, on both\n", cases - wrong, cases);
+    printf("typed: %d of %d cases are as 01 and 02 say, on both\n", cases - wrong, cases);
     return wrong != 0;
 }

@@ -6,10 +6,13 @@ use mathlib.Core.Logic.{_↔_}
 use mathlib.Core.Option.{Option, none, some}
 use Prim.Native.Nat.{ℕ, _≤_, _<_}
 use native.Mathlib.Omega.{arith}
-use lib.ListN.{length, getD, take, drop}
-use borrow.Author.Tests.{lt-ltb, le-ltb, ne-eqb, not-true, not-false}
-use Rattle.text.specs.Texts.{Text, indexOf}
-use Rattle.names.specs.Names.{isMethodName}
+use lib.ListN.{length, getD, take, drop, replicate}
+use lib.Dec.{leb}
+use borrow.Author.Tests.{lt-ltb, le-ltb, leb-true, ne-eqb, not-true, not-false}
+use Rattle.text.specs.Texts.{Text, semicolon, has, all, indexOf}
+use Rattle.text.specs.Bytes.{between, isText}
+use Rattle.text.proofs.Truths.{and-left, and-right}
+use Rattle.names.specs.Names.{madeOf, isMethodName}
 use Rattle.listings.specs.Refusals.{numberOf, readingOf, report}
 use Rattle.listings.specs.declared.answers.Report.{Report}
 use Rattle.listings.specs.Listings.{listingOf}
@@ -23,6 +26,8 @@ use Rattle.reading.specs.declared.reader.Loaded.{Loaded}
 use Rattle.reading.specs.declared.reader.Loaded.the-variants.{Whole, Not}
 use Rattle.entries.specs.declared.tables.Tally.{Tally}
 use Rattle.reading.proofs.Accepted.{accepted-proper}
+use Rattle.decisions.specs.Paths.{dropped}
+use Rattle.decisions.proofs.Droppings.{dropped-none}
 use Rattle.decisions.specs.Requests.{Caller, isPath, callerOf}
 use Rattle.decisions.specs.Decisions.{answerNumber}
 use Rattle.deciding.specs.Outcomes.{refused, answered, asked, decideCaller, decideRequest, decideListing, decisionOf, DecideOutcome}
@@ -74,6 +79,26 @@ module _ (v : View) (path : Text) (x : Leading) (led : x ≡ leading (texts v) p
     unfolding answerFor
     joined-answer m u i j h a p q e f = rw (← led, ne-eqb (x .most) 0 some-lead, ← q, ← p, ← e) f
 
+-- ---- a path as received
+-- one that is not refused is short
+pub path-short : (path : Text) → isPath path ≡ true → length path ≤ 1024
+unfolding isPath
+path-short path h =
+    leb-true (length path) 1024
+    (and-right (leb 1 (length path)) _ (and-left (between 1 1024 (length path)) (all isText path) (and-left (madeOf isText 1 1024 path) _ h)))
+
+pub path-good : (path : Text) (p : Bool) → p ≡ isPath path → not p ≡ false → isPath path ≡ true
+path-good path p e h = sym e ∙ not-false p h
+
+module _ (v : View) (path m : Text) (h : Who) (a : Answer) where
+  -- without a `;` it is its own dropped path
+  pub unmarked-answer : (b : Bool) → b ≡ has semicolon path → not b ≡ true → a ≡ answerFor v path m h → a ≡ answerFor v (dropped path) m h
+  unmarked-answer b e n f = f ∙ ap (λ (p : Text). answerFor v p m h) (sym (dropped-none path (sym e ∙ not-true b n)))
+
+  -- else the buffer has that
+  pub marked-answer : (kept : Text) (n : ℕ) → take n kept ≡ dropped path → a ≡ answerFor v (take n kept) m h → a ≡ answerFor v (dropped path) m h
+  marked-answer kept n e f = f ∙ ap (λ (p : Text). answerFor v p m h) e
+
 -- ---- a request
 module _ (s path method names : Text) (login : ℕ) (p : Bool) (on-path : p ≡ isPath path) (d : Decision) where
   -- the path is bad
@@ -100,7 +125,7 @@ module _ (s path method names : Text) (login : ℕ) (p : Bool) (on-path : p ≡ 
         caller-refused b e = by-caller (rw (bad-none .0 b) e)
 
         -- nothing is: the answer
-        pub request-answered : (who : Who) (a : Answer) (n : ℕ) → h ≡ Good who → a ≡ answerFor (viewAt s t w) path method who → n ≡ answerNumber a → d ≡ answered n
+        pub request-answered : (who : Who) (a : Answer) (n : ℕ) → h ≡ Good who → a ≡ answerFor (viewAt s t w) (dropped path) method who → n ≡ answerNumber a → d ≡ answered n
             → d ≡ decideRequest (asked s path method login names)
         request-answered who a n g e f r = by-caller (go (callerOf login names) refl)
           where
@@ -109,8 +134,8 @@ module _ (s path method names : Text) (login : ℕ) (p : Bool) (on-path : p ≡ 
             go (some k) c =
                 let roles = H .holds .proper in
                 r ∙ ap answered (f ∙ ap answerNumber (e
-                ∙ ap (answerFor (viewAt s t w) path method) (held-good (viewAt s t w) (roles .few-roles) (roles .roles-once) login names k who c (sym on-caller ∙ g))
-                ∙ ap (λ (v : View). answerFor v path method (whoAs v k)) (H .view)
+                ∙ ap (answerFor (viewAt s t w) (dropped path) method) (held-good (viewAt s t w) (roles .few-roles) (roles .roles-once) login names k who c (sym on-caller ∙ g))
+                ∙ ap (λ (v : View). answerFor v (dropped path) method (whoAs v k)) (H .view)
                 ∙ answer-for (listingOf s) (accepted-proper s (H .accepts)) path method k))
 
 -- ---- a listing that is read

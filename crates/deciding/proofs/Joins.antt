@@ -29,6 +29,7 @@ use Rattle.names.proofs.Plainly.{same-swap, member-append}
 use Rattle.entries.proofs.Digits.{set-same, digit-set, set-or, set-none}
 use Rattle.reading.proofs.Viewings.{texts-of, cover-of, access-of}
 use Rattle.decisions.specs.Matching.{best}
+use Rattle.decisions.specs.Paths.{dropped}
 use Rattle.decisions.specs.Requests.{Caller, nobody, holder, request}
 use Rattle.decisions.specs.Combining.{Access, closed, free, roles, join, neutral, anyOf, rolesOf, accessOf}
 use Rattle.decisions.specs.Decisions.{nothingTaken, combinedAt, combinedFor, answerTo, decide}
@@ -325,10 +326,10 @@ module _ (l : Listing) (P : Proper l) where
       go true = shows-answer j (g .sum) c (A .1)
       go false = refl
 
-  -- so what the code answers by a listing's view is what the listing decides
-  pub answer-for : (path m : Text) (c : Caller) → answerFor (viewOf l) path m (whoAs (viewOf l) c) ≡ decide l (request path m c)
-  unfolding answerFor viewOf decide combinedFor combinedAt answerTo bestLine
-  answer-for path m c = rw (texts-of l) (go (eqb (leading (patternsOf l) path .most) 0) refl)
+  -- so what the code answers by a listing's view is what the constraints for the path and the method come to
+  answer-at : (path m : Text) (c : Caller) → answerFor (viewOf l) path m (whoAs (viewOf l) c) ≡ answerTo (combinedFor l path m) c
+  unfolding answerFor viewOf combinedFor combinedAt answerTo bestLine
+  answer-at path m c = rw (texts-of l) (go (eqb (leading (patternsOf l) path .most) 0) refl)
     where
       text : Text
       text = getD (patternsOf l) (leading (patternsOf l) path .at) []
@@ -343,3 +344,8 @@ module _ (l : Listing) (P : Proper l) where
       go false q =
           let b : best (patternsOf l) path ≡ some text = best-line-some (patternsOf l) path (P .short-patterns) (leading (patternsOf l) path .at) (rw q) in
           rw b (joined-answer joined (gathered l text m) c (agree-all l P text m) ∙ ap (λ (a : Access). answerTo a c) (sym (gathered-combined l text m)))
+
+  -- of the path without its parameters: what the listing decides of the path as received
+  pub answer-for : (path m : Text) (c : Caller) → answerFor (viewOf l) (dropped path) m (whoAs (viewOf l) c) ≡ decide l (request path m c)
+  unfolding decide
+  answer-for path m c = answer-at (dropped path) m c

@@ -11,7 +11,7 @@ use Rattle.decisions.specs.declared.answers.Answer.{Answer}
 use Rattle.decisions.specs.declared.answers.Answer.the-variants.{Open}
 use Rattle.callers.specs.declared.Who.{Who}
 
--- the answer by the strongest pattern line, and by the constraints joined for its text
+-- for a path without parameters, the answer by the strongest pattern line, and by the constraints joined for its text
 unfoldable pub answerFor : View → Text → Text → Who → Answer
 unfolding leading joinedUpTo joinedAnswer indexOf texts
 answerFor v path m who =

@@ -1,5 +1,6 @@
 // The whole call: reading the listing, then the request, then the answer.
 ghost use mathlib.Core.Path.{_≡_};
+ghost use mathlib.Core.Bool.{true};
 ghost use Prim.Native.Nat.{_≤_};
 ghost use lib.ListN.{length};
 ghost use Rattle.worktable.specs.Work.{zeroed};
@@ -7,6 +8,8 @@ ghost use Rattle.listings.specs.Refusals.{readingOf};
 ghost use Rattle.entries.specs.Room.{listingRoom};
 ghost use Rattle.reading.specs.Holds.{Holds, HoldsListing, LoadOutcome};
 ghost use Rattle.reading.specs.Views.{viewAt};
+ghost use Rattle.decisions.specs.Paths.{dropped};
+ghost use Rattle.decisions.specs.Requests.{isPath};
 ghost use Rattle.deciding.specs.Outcomes.{refused, answered, asked, DecideOutcome, decideListing, decideRequest};
 ghost use Rattle.deciding.specs.Deciders.{answerFor};
 use crate::answers::Decision;
@@ -25,6 +28,7 @@ use reading::held;
 use reading::reader;
 use reading::reader::Loaded;
 use text::bytes;
+use text::texts;
 
 // A refusal, whose answer is 0.
 pub fn refuse(number: u32, side: u32, line: u32) -> Decision
@@ -46,8 +50,8 @@ pub fn tell(answer: u32) -> Decision
     }
 }
 
-// The answer to a caller for a path and a method.
-pub fn answer_for(s: &[u8], w: &[u32], t: Tally, path: &[u8], method: &[u8], who: Who) -> Answer
+// The answer to a caller for a path without parameters and a method.
+pub fn answer_at(s: &[u8], w: &[u32], t: Tally, path: &[u8], method: &[u8], who: Who) -> Answer
     requires { ⌜ Holds (now s) t (now w) ⌝ }
     ensures { λ r. ⌜ r ≡ answerFor (viewAt (now (s .entry)) t (now (w .entry))) (now (path .entry)) (now (method .entry)) who ⌝ }
 {
@@ -60,6 +64,19 @@ pub fn answer_for(s: &[u8], w: &[u32], t: Tally, path: &[u8], method: &[u8], who
     let m = held::method_index(s, w, t, method);
     let j = joining::join_lines(s, w, t, held::pattern(s, w, t, at), m);
     joining::answer_to(j, who)
+}
+
+// The answer to a caller for a path as received and a method: one without ';' is taken as it is, and of any other what is left without its parameters.
+pub fn answer_for(s: &[u8], w: &[u32], t: Tally, path: &[u8], method: &[u8], who: Who) -> Answer
+    requires { ⌜ Holds (now s) t (now w) × (isPath (now path) ≡ true) ⌝ }
+    ensures { λ r. ⌜ r ≡ answerFor (viewAt (now (s .entry)) t (now (w .entry))) (dropped (now (path .entry))) (now (method .entry)) who ⌝ }
+{
+    if !texts::has_byte(b';', path) {
+        return answer_at(s, w, t, path, method, who);
+    }
+    let mut kept = [0; 1024];
+    let n = matching::drop_into(&mut kept, path);
+    answer_at(s, w, t, &kept[..n], method, who)
 }
 
 // A request to a listing that the table holds.

@@ -1,4 +1,4 @@
--- 01's worked requests 1 to 11 and its bad callers, as tables that antt computes from the bytes of the listings and of the callers' names.
+-- 01's worked requests 1 to 11, requests with session marks, and 01's bad callers, as tables that antt computes from the bytes of the listings and of the callers' names.
 use mathlib.Core.Path.{_≡_, refl}
 use mathlib.Core.List.{[], _∷_, _++_, map}
 use mathlib.Core.Option.{none, some}
@@ -7,9 +7,10 @@ use Rattle.text.specs.Bytes.{isText}
 use Rattle.listings.specs.Records.{namesRole}
 use Rattle.names.specs.Names.{isRoleName}
 use Rattle.listings.specs.Listings.{listingOf}
+use Rattle.decisions.specs.Paths.{dropped}
 use Rattle.decisions.specs.Requests.{nobody, holder, callerOf}
 use Rattle.decisions.specs.Decisions.{decide}
-use Rattle.decisions.specs.Worked.{listingL, undeclared, asked, answers, lastAsked}
+use Rattle.decisions.specs.Worked.{listingL, undeclared, asked, answers, lastAsked, received, leftOver, endings, gets, markedAnswers, endingAnswers}
 use Rattle.decisions.specs.declared.answers.Answer.the-variants.{ByRole}
 
 pub worked-requests : map (decide (listingOf listingL)) asked ≡ answers
@@ -19,6 +20,19 @@ worked-requests = refl
 pub worked-11 : decide (listingOf undeclared) lastAsked ≡ ByRole
 unfolding undeclared lastAsked namesRole decide listingOf
 worked-11 = refl
+
+-- 02: "The gateway hands us `/clock/offset;s=12`", which gets its exact pattern, and marks in other places
+pub session-marks-dropped : map dropped received ≡ leftOver
+unfolding received leftOver dropped
+session-marks-dropped = refl
+
+pub session-marks : map (decide (listingOf listingL)) (gets received) ≡ markedAnswers
+unfolding listingL received markedAnswers namesRole decide listingOf
+session-marks = refl
+
+pub session-marks-behind-a-dot : map (decide (listingOf endings)) (gets received) ≡ endingAnswers
+unfolding endings received endingAnswers namesRole decide listingOf
+session-marks-behind-a-dot = refl
 
 -- eight names
 abbrev eight : Text

@@ -8,6 +8,7 @@ use Rattle.text.proofs.Truths.{never}
 use Rattle.names.specs.Names.{isStar}
 use Rattle.listings.specs.Listings.{Listing, isEmpty, closes}
 use Rattle.listings.specs.Propers.{Proper}
+use Rattle.decisions.specs.Paths.{dropped}
 use Rattle.decisions.specs.Requests.{Caller, nobody, holder, Extends}
 use Rattle.decisions.specs.Combining.{Access, closed, free, roles, anyOf, rolesOf}
 use Rattle.decisions.specs.Decisions.{combine, combinedAt, combinedFor, answerTo, decide, isGrant, may, answerNumber, isGrantNumber}
@@ -38,7 +39,7 @@ access-keeps (roles f) (holder ns) (holder ms) e h = roles-grant f ms ∙ any-mo
 
 pub never-loses : (l : Listing) → NeverLoses l
 unfolding decide
-never-loses l path method c d = access-keeps (combinedFor l path method) c d
+never-loses l path method c d = access-keeps (combinedFor l (dropped path) method) c d
 
 -- ---- what the best pattern does not cover is open
 pub uncovered-is-open : (l : Listing) → UncoveredIsOpen l

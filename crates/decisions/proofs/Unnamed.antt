@@ -10,6 +10,7 @@ use Rattle.text.proofs.Truths.{never, not-so}
 use Rattle.names.proofs.Plainly.{member-plain}
 use Rattle.listings.proofs.Lines.{line-in}
 use Rattle.decisions.specs.Matching.{best}
+use Rattle.decisions.specs.Paths.{dropped}
 use Rattle.decisions.specs.Combining.{Access, accessOf}
 use Rattle.decisions.specs.Decisions.{isTaken, taken, combine, combinedAt, combinedFor, answerTo, decide}
 use Rattle.decisions.specs.Demands.{UnnamedAlike}
@@ -61,4 +62,4 @@ module _ (m n : Text) where
 -- ---- so are requests
 pub unnamed-same : (l : Listing) → Proper l → UnnamedAlike l
 unfolding decide combinedFor
-unnamed-same l P path m n c h k = ap (λ (a : Access). answerTo a c) (unnamed-alike m n l P h k (best (patternsOf l) path))
+unnamed-same l P path m n c h k = ap (λ (a : Access). answerTo a c) (unnamed-alike m n l P h k (best (patternsOf l) (dropped path)))

@@ -7,6 +7,7 @@ use lib.Dec.{eqb}
 use Rattle.text.specs.Texts.{Text, member}
 use Rattle.listings.specs.Listings.{Collected, Constrained, Listing, covers, patternsOf}
 use Rattle.decisions.specs.Matching.{best}
+use Rattle.decisions.specs.Paths.{dropped}
 use Rattle.decisions.specs.Requests.{Caller, nobody, holder, Request, matched}
 use Rattle.decisions.specs.Combining.{Access, closed, free, roles, together, anyOf, accessOf}
 use Rattle.decisions.specs.declared.answers.Answer.{Answer}
@@ -54,7 +55,7 @@ answerTo (roles f) (holder ns) = cond (anyOf f ns) ByRole RoleLacking
 
 -- what a listing answers to a request
 unfoldable pub decide : Listing → Request → Answer
-unfolding answerTo combinedFor
+unfolding answerTo combinedFor dropped
 decide l r = answerTo (combinedFor l (matched r) (r .method)) (r .caller)
 
 -- "The first two are grants."

@@ -1,5 +1,6 @@
 -- What a listing decides of a request, in document 01's words, on the definitions of `text` and `listings`. Read in this order:
 --   Matching   which pattern matches a path, and which is the best match
+--   Paths      a path without its parameters
 --   Requests   what a request has to be, and who the caller is
 --   Combining  what a constraint says, and what several come to together
 --   Decisions  which constraints are taken, what they come to, and the answer
@@ -9,6 +10,7 @@
 --   Gatherings what the `pattern` lines come to, one after the other
 -- docs/READING.md explains the notation.
 pub mod Matching
+pub mod Paths
 pub mod Requests
 pub mod Combining
 pub mod Decisions

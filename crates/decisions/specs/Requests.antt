@@ -1,4 +1,4 @@
--- "A request is a path (1 to 1,024 text bytes, first `/`), a method and a caller."
+-- "A request is a path (1 to 1,024 text bytes, first `/`), a method and a caller." The path is the one received: "the 1,024 limit counts the bytes before dropping".
 use Prim.Native.Nat.{ℕ, zero, suc}
 use mathlib.Core.Bool.{Bool, true, cond, _&&_}
 use mathlib.Core.List.{List, [], _∷_, map, List·Memᴰ}
@@ -9,6 +9,7 @@ use Rattle.text.specs.Texts.{Text, bytes, all, startsWith}
 use Rattle.text.specs.Bytes.{isText}
 use Rattle.names.specs.Names.{madeOf, isRoleName, isMethodName}
 use Rattle.text.specs.Lines.{Line, linesOf}
+use Rattle.decisions.specs.Paths.{dropped}
 
 -- ---- the path and the method
 unfoldable pub isPath : Text → Bool
@@ -65,6 +66,6 @@ pub record Request : Type 0 where
 abbrev pub request : Text → Text → Caller → Request
 request path method caller = record { path = path; method = method; caller = caller }
 
--- what of it the patterns are held against: the path as it is, since "A `;` in a path is an ordinary byte."
+-- what of it the patterns are held against: its path without the parameters, whatever the path is as it was received
 abbrev pub matched : Request → Text
-matched r = r .path
+matched r = dropped (r .path)

@@ -1,5 +1,5 @@
--- 01's "Worked requests" 1 to 11: the listings as bytes, and the requests.
-use mathlib.Core.List.{List, [], _∷_, _++_}
+-- 01's "Worked requests" 1 to 11, and requests with session marks: the listings as bytes, and the requests.
+use mathlib.Core.List.{List, [], _∷_, _++_, map}
 use Rattle.text.specs.Texts.{Text, bytes}
 use Rattle.decisions.specs.Requests.{Caller, nobody, holder, Request, request}
 use Rattle.decisions.specs.declared.answers.Answer.{Answer}
@@ -50,3 +50,48 @@ answers = Closed ∷ Open ∷ ByRole ∷ Open ∷ ByRole ∷ Closed ∷ Open ∷
 -- request 11, to the other
 unfoldable pub lastAsked : Request
 lastAsked = request (bytes "/a/b") (bytes "GET") (with (bytes "adjuster"))
+
+-- ---- session marks
+-- paths as received: 02's own; a `;` in the middle, twice in a segment, empty, after the dot; `/;x`; `;/` first and last
+unfoldable pub received : List Text
+received =
+    bytes "/clock/offset;s=12"
+    ∷ bytes "/clock;a=1/offset"
+    ∷ bytes "/clock;a;b=/offset;c;;d"
+    ∷ bytes "/clock/offset;"
+    ∷ bytes "/log.;v=1.csv"
+    ∷ bytes "/log.csv;v=1.txt"
+    ∷ bytes "/;x"
+    ∷ bytes "/;/clock;/"
+    ∷ bytes "/clock/offset"
+    ∷ []
+
+-- and without their parameters
+unfoldable pub leftOver : List Text
+leftOver =
+    bytes "/clock/offset"
+    ∷ bytes "/clock/offset"
+    ∷ bytes "/clock/offset"
+    ∷ bytes "/clock/offset"
+    ∷ bytes "/log."
+    ∷ bytes "/log.csv"
+    ∷ bytes "/"
+    ∷ bytes "//clock/"
+    ∷ bytes "/clock/offset"
+    ∷ []
+
+-- closed: what ends in `.csv`, and `/`
+unfoldable pub endings : Text
+endings = bytes "constraints\t1\nconstraint\tauth\ncollection\npattern\t*.csv\npattern\t\nend\n"
+
+-- one who is not logged in asks for each of them
+abbrev pub gets : List Text → List Request
+gets ps = map (λ (p : Text). request p (bytes "GET") nobody) ps
+
+-- listing L's exact pattern wants a login; behind `/clock/` and elsewhere GET is open
+unfoldable pub markedAnswers : List Answer
+markedAnswers = LoginWanted ∷ LoginWanted ∷ LoginWanted ∷ LoginWanted ∷ Open ∷ Open ∷ Open ∷ Open ∷ LoginWanted ∷ []
+
+-- the other's answers
+unfoldable pub endingAnswers : List Answer
+endingAnswers = Open ∷ Open ∷ Open ∷ Open ∷ Open ∷ Closed ∷ Closed ∷ Open ∷ Open ∷ []

@@ -1,6 +1,6 @@
 -- The records of a listing, and which may follow which.
 use Prim.Native.Nat.{ℕ}
-use mathlib.Core.Bool.{Bool, true, false, cond, _&&_, _||_}
+use mathlib.Core.Bool.{Bool, true, false, not, cond, _&&_, _||_}
 use mathlib.Core.List.{List, [], _∷_, _++_}
 use mathlib.Core.Option.{Option, none, some}
 use lib.Dec.{eqb}
@@ -135,7 +135,7 @@ fieldsWhere test (r ∷ rs) = cond (test r) (r .field ∷ fieldsWhere test rs) (
 -- the record declares a role, or allows one by name
 unfoldable pub namesRole : Record → Bool
 unfolding isStar
-namesRole r = isKind Role r || (isKind Allow r && cond (isStar (r .field)) false true)
+namesRole r = isKind Role r || (isKind Allow r && not (isStar (r .field)))
 
 -- the record names a method
 abbrev pub namesMethod : Record → Bool

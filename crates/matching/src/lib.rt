@@ -1,9 +1,11 @@
-// Whether a pattern text matches a path, how strongly, and which of several does most strongly. The crate `decisions` says what a match is.
+// A path without its parameters; whether a pattern text matches a path, how strongly, and which of several does most strongly. The crate `decisions` says what a match is.
 ghost use mathlib.Core.Path.{_≡_};
-ghost use Prim.Native.Nat.{_≤_, _<_};
-ghost use lib.ListN.{length};
+ghost use mathlib.Core.Bool.{cond};
+ghost use Prim.Native.Nat.{_+_, _≤_, _<_};
+ghost use lib.ListN.{length, take};
 ghost use Rattle.text.specs.Bytes.{classTable};
 ghost use Rattle.decisions.specs.Matching.{isUnder};
+ghost use Rattle.decisions.specs.Paths.{isDropped, dropped};
 ghost use Rattle.decisions.specs.Requests.{isPath};
 ghost use Rattle.matching.specs.Strengths.{Ends, strength, rootedStrength, starredStrength, lead};
 use text::texts;
@@ -23,6 +25,44 @@ pub fn is_path(table: &[u8; 256], p: &[u8]) -> bool
         return false;
     }
     texts::starts_with(b"/", p)
+}
+
+// Whether a byte of a path is dropped: no '/', and a ';' or behind one of its segment.
+pub fn is_dropped(behind: bool, b: u8) -> bool
+    ensures { λ r. ⌜ r ≡ isDropped behind b ⌝ }
+{
+    !(b'/' == b) & (behind | (b';' == b))
+}
+
+// The place for the next byte, once one is put at n: n again where that one is dropped.
+pub fn next_place(n: usize, dropped: bool) -> usize
+    requires { ⌜ n < 1024 ⌝ }
+    ensures { λ r. ⌜ r ≡ cond dropped n (n + 1) ⌝ }
+{
+    if dropped {
+        return n;
+    }
+    n + 1
+}
+
+// Puts the path without its parameters at the start of out, and hands back how many bytes that is.
+pub fn drop_into(out: &mut [u8], path: &[u8]) -> usize
+    requires { ⌜ (length (now path) ≤ 1024) × (1024 ≤ length (now out)) ⌝ }
+    ensures size { λ r. ⌜ r ≤ 1024 ⌝ }
+    ensures bytes { λ r. ⌜ take r (now (out .exit)) ≡ dropped (now (path .entry)) ⌝ }
+    ensures kept { λ _. ⌜ length (now (out .exit)) ≡ length (now (out .entry)) ⌝ }
+{
+    let mut behind = false;
+    let mut n = 0;
+    let mut i = 0;
+    while i < path.len() {
+        let b = path[i];
+        out[n] = b;
+        behind = is_dropped(behind, b);
+        n = next_place(n, behind);
+        i += 1;
+    }
+    n
 }
 
 // How a path ends: whether its last segment has a '.', and the place of what follows the last one, or of the segment where it has none.

@@ -7,8 +7,10 @@ use native.Mathlib.Omega.{arith}
 use lib.ListN.{length, take, drop}
 use lib.Dec.{leb, ltb}
 use borrow.Author.Tests.{le-leb, lt-leb, ltb-true, ltb-false, not-true, not-false}
-use Rattle.text.specs.Texts.{Text, bytes, same, startsWith, endsWith, part}
+use Rattle.text.specs.Texts.{Text, bytes, semicolon, same, has, all, startsWith, endsWith, part}
+use Rattle.text.specs.Bytes.{isText}
 use Rattle.names.specs.Patterns.{exact, prefix, extension, default, unpermitted, isExtension, kindOf, isPermitted}
+use Rattle.names.specs.Names.{isPattern}
 use Rattle.text.proofs.Truths.{never, not-so}
 use Rattle.text.proofs.Spans.{same-equal, same-lengths, starts-short, from-on}
 
@@ -137,6 +139,19 @@ permitted t =
 pub is-permitted : (t : Text) (z : Bool)
     → z ≡ (same t [] || (startsWith (bytes "/") t || (startsWith (bytes "*.") t && isExtension (drop 2 t)))) → z ≡ isPermitted (kindOf t)
 is-permitted t z e = e ∙ sym (permitted t)
+
+-- a pattern's tests, the length's to the last space's held: what is left is that it has no `;`, and its kind
+module _ (t : Text) (clean spaced marked : Bool) (h : length t ≤ 255) (is : clean ≡ all isText t) (c : not clean ≡ false)
+    (last : spaced ≡ endsWith (bytes " ") t) (s : spaced ≡ false) (mark : marked ≡ has semicolon t) where
+  left-of-pattern : (not marked && isPermitted (kindOf t)) ≡ isPattern t
+  unfolding isPattern
+  left-of-pattern = sym (rw (le-leb 0 (length t) (omega arith), le-leb (length t) 255 h, ← is, not-false clean c, ← last, s, ← mark))
+
+  pub marked-fails : marked ≡ true → false ≡ isPattern t
+  marked-fails e = ap (λ (b : Bool). not b && isPermitted (kindOf t)) (sym e) ∙ left-of-pattern
+
+  pub unmarked-goes-on : (z : Bool) → marked ≡ false → z ≡ isPermitted (kindOf t) → z ≡ isPattern t
+  unmarked-goes-on z e f = f ∙ ap (λ (b : Bool). not b && isPermitted (kindOf t)) (sym e) ∙ left-of-pattern
 
 -- what is behind `*.`, as it is lent
 pub extension-behind : (t : Text) (r : Bool) → r ≡ isExtension (part 2 (length t) t) → r ≡ isExtension (drop 2 t)

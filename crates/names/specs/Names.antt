@@ -4,7 +4,7 @@ use mathlib.Core.Bool.{Bool, true, false, not, _&&_, _||_}
 use mathlib.Core.List.{List, [], _∷_}
 use lib.ListN.{length}
 use lib.Dec.{leb}
-use Rattle.text.specs.Texts.{Text, bytes, same, all, startsWith, endsWith}
+use Rattle.text.specs.Texts.{Text, bytes, semicolon, same, has, all, startsWith, endsWith}
 use Rattle.text.specs.Bytes.{between, isText, isToken}
 use Rattle.names.specs.Patterns.{kindOf, isPermitted}
 
@@ -32,10 +32,10 @@ unfoldable pub isMethodName : Text → Bool
 unfolding all
 isMethodName t = madeOf isToken 1 24 t
 
--- "Patterns: 0 to 255 text bytes, no space last", and of a kind that 01 permits
+-- "Patterns: 0 to 255 text bytes, no space last", of a kind that 01 permits; 02: "no pattern may hold a `;` now"
 unfoldable pub isPattern : Text → Bool
-unfolding all endsWith kindOf
-isPattern t = madeOf isText 0 255 t && (not (endsWith (bytes " ") t) && isPermitted (kindOf t))
+unfolding all has endsWith kindOf
+isPattern t = madeOf isText 0 255 t && (not (endsWith (bytes " ") t) && (not (has semicolon t) && isPermitted (kindOf t)))
 
 -- "`constraint⇥open` or `constraint⇥auth`"
 unfoldable pub isConstraintKind : Text → Bool

@@ -100,7 +100,7 @@ pub fn is_permitted(t: &[u8]) -> bool
     is_extension(&t[2..])
 }
 
-// Whether t is a pattern: 0 to 255 text bytes, no space last, and of a kind that 01 permits.
+// Whether t is a pattern: 0 to 255 text bytes, no space last, no ';', and of a kind that 01 permits.
 pub fn is_pattern(t: &[u8], clean: bool) -> bool
     requires { ⌜ clean ≡ all isText (now t) ⌝ }
     ensures { λ r. ⌜ r ≡ isPattern (now (t .entry)) ⌝ }
@@ -112,6 +112,9 @@ pub fn is_pattern(t: &[u8], clean: bool) -> bool
         return false;
     }
     if texts::ends_with(b" ", t) {
+        return false;
+    }
+    if texts::has_byte(b';', t) {
         return false;
     }
     is_permitted(t)

@@ -11,9 +11,7 @@ use lib.Dec.{eqb, ltb, leb, leb·suc-suc, leb·zero}
 use borrow.Author.Tests.{lt-ltb, le-ltb, ltb-true, ltb-false, le-leb, lt-leb, leb-true, leb-false, eq-eqb, ne-eqb}
 use Rattle.text.specs.Texts.{Text, bytes, part, same, startsWith, endsWith, member, indexOf, run}
 use Rattle.names.specs.Patterns.{PatternKind, exact, prefix, extension, default, unpermitted, kindOf, isExtension, isPermitted}
-use Rattle.names.specs.Names.{madeOf, isPattern}
-use Rattle.text.specs.Bytes.{isText}
-use Rattle.text.proofs.Truths.{never, not-so, and-left, and-right}
+use Rattle.text.proofs.Truths.{never, not-so}
 use Rattle.text.proofs.Spans.{same-equal, same-self}
 use Rattle.text.proofs.Indices.{index-bound, index-member, index-front, member-at}
 use Rattle.names.proofs.Plainly.{member-append}
@@ -23,6 +21,7 @@ use Rattle.entries.specs.declared.tables.Tally.{Tally}
 use Rattle.matching.specs.Strengths.{kindStrength, startLeading, leadBy}
 use Rattle.matching.specs.declared.Leading.{Leading}
 use Rattle.matching.proofs.Strengths.{at-listed}
+use Rattle.trials.proofs.Bounds.{pattern-permitted}
 use Rattle.grants.specs.Scratch.{placed, sortOf, stemStrength, leadingBy, stemPlace}
 use Rattle.grants.proofs.OwnStems.{own-first}
 use Rattle.numbers.specs.Writes.{Kept, Both, BothLent, oldTexts, newTexts}
@@ -238,12 +237,9 @@ stem-moved os ns t u j x e S = subst (λ (v : Text). StemIs os ns v j x) e S
 
 -- the texts of both are permitted
 permitted-in : (s : Text) (t : Tally) (w : List ℕ) → Holds s t w → (i : ℕ) → i < length (texts (viewAt s t w)) → isPermitted (kindOf (getD (texts (viewAt s t w)) i [])) ≡ true
-unfolding isPattern
 permitted-in s t w H i h =
     let ts : List Text = texts (viewAt s t w) in
-    let g = H .proper .good-patterns (getD ts i []) (at-listed ts i h) in
-    let u : Text = getD ts i [] in
-    and-right (not (endsWith (bytes " ") u)) (isPermitted (kindOf u)) (and-right (madeOf isText 0 255 u) (not (endsWith (bytes " ") u) && isPermitted (kindOf u)) g)
+    pattern-permitted (getD ts i []) (H .proper .good-patterns (getD ts i []) (at-listed ts i h))
 
 pub permitted-at : (old new : Text) (wo wn : List ℕ) (pair : Pair) → Both old new wo wn pair → (t : Text) (j : ℕ) → j < length (newTexts new wn pair ++ oldTexts old wo pair)
     → t ≡ getD (newTexts new wn pair ++ oldTexts old wo pair) j [] → isPermitted (kindOf t) ≡ true

@@ -182,7 +182,7 @@ module _ (rs : List Record) (f : Text) (a : Spoken rs) where
   spoken-more k p = rw (methods-snoc rs (recordWith k f), roles-snoc rs (recordWith k f), constraints-snoc rs (recordWith k f)) (go k (p .pattern))
     where
       star : (b : Bool) → isStar f ≡ b
-          → Each (Allows (methodsIn rs) (cond (cond b false true) (known (rolesIn rs) f) (rolesIn rs))) (onLast (addAllowed f) (constraintsIn rs))
+          → Each (Allows (methodsIn rs) (cond (not b) (known (rolesIn rs) f) (rolesIn rs))) (onLast (addAllowed f) (constraintsIn rs))
       star true e = each-on-last _ (addAllowed f) (with-allowed (methodsIn rs) (rolesIn rs) f (rw e)) (constraintsIn rs) a
       star false e = each-on-last _ (addAllowed f) (with-allowed (methodsIn rs) (known (rolesIn rs) f) f (rw (e, known-has (rolesIn rs) f))) (constraintsIn rs) more-roles
 
@@ -220,7 +220,7 @@ good-more rs k f a p = rw (methods-snoc rs (recordWith k f), roles-snoc rs (reco
     role : isRoleName f ≡ true → Each (λ (n : Text). isRoleName n ≡ true) (known (rolesIn rs) f)
     role h = known-each (rolesIn rs) f (λ (n : Text). isRoleName n ≡ true) (a .1) h
 
-    star : (b : Bool) → isStar f ≡ b → isName f ≡ true → Each (λ (n : Text). isRoleName n ≡ true) (cond (cond b false true) (known (rolesIn rs) f) (rolesIn rs))
+    star : (b : Bool) → isStar f ≡ b → isName f ≡ true → Each (λ (n : Text). isRoleName n ≡ true) (cond (not b) (known (rolesIn rs) f) (rolesIn rs))
     star true e h = a .1
     star false e h = role (rw (h, e))
 

@@ -1,6 +1,6 @@
 -- What the tables keep of the records before: their place, counts and names. So what refuses a record over the tables is the first rule that it breaks.
 use mathlib.Core.Path.{_≡_, refl, sym, ap, _∙_}
-use mathlib.Core.Bool.{Bool, true, false, cond, _||_}
+use mathlib.Core.Bool.{Bool, true, false, not, cond, _||_}
 use mathlib.Core.List.{List, [], _∷_, _++_, append-assoc, append-nil}
 use mathlib.Core.Option.{none, some}
 use Prim.Native.Nat.{ℕ, suc, _+_}
@@ -136,7 +136,7 @@ module _ (rs : List Record) (T : Tables) (K : Kept rs T) where
   past-at-allow t = past-snoc rs (recordWith Allow t) ∙ rw (K .roles) (go (isStar t) (member t (rolesIn rs)))
     where
       go : (s m : Bool) → past (count Constraint rs) (count Collection rs) (count Pattern rs) (count Method rs + count Omit rs)
-          (length (cond (cond s false true) (cond m (rolesIn rs) (rolesIn rs ++ t ∷ [])) (rolesIn rs))) (length (methodsIn rs))
+          (length (cond (not s) (cond m (rolesIn rs) (rolesIn rs ++ t ∷ [])) (rolesIn rs))) (length (methodsIn rs))
           ≡ cond s false (cond m false (leb mostRoles (length (rolesIn rs))))
       go true m = past-none W
       go false true = past-none W
@@ -310,7 +310,7 @@ module _ (rs : List Record) (T : Tables) (K : Kept rs T) where
   added-roles k t p =
       go k p ∙ ap (λ (us : List Text). cond (namesRole (recordWith k t)) (known us t) us) (K .roles) ∙ sym (roles-snoc rs (recordWith k t))
     where
-      star : (s : Bool) → cond s (T .roles) (indexed t (T .roles)) ≡ cond (cond s false true) (known (T .roles) t) (T .roles)
+      star : (s : Bool) → cond s (T .roles) (indexed t (T .roles)) ≡ cond (not s) (known (T .roles) t) (T .roles)
       star true = refl
       star false = indexed-known t (T .roles)
 

@@ -7,10 +7,9 @@ use native.Mathlib.Omega.{arith}
 use lib.ListN.{length, take, drop, length-append, length-drop}
 use lib.Seq.{sets}
 use Rattle.text.specs.Texts.{Text, bytes, slash, dot, same, startsWith, endsWith, part}
-use Rattle.text.specs.Bytes.{isText}
-use Rattle.names.specs.Names.{madeOf, isPattern}
+use Rattle.names.specs.Names.{isPattern}
 use Rattle.names.specs.Patterns.{exact, prefix, extension, unpermitted, isExtension, kindOf, isPermitted}
-use Rattle.text.proofs.Truths.{never, and-left, and-right}
+use Rattle.text.proofs.Truths.{never}
 use Rattle.text.proofs.Spans.{same-equal, from-on}
 use Rattle.names.proofs.Namings.{filled-differs}
 use Rattle.names.proofs.Plainly.{starts-plain}
@@ -19,18 +18,8 @@ use Rattle.writing.proofs.Decimals.{digits-most}
 use Rattle.writing.proofs.Puts.{sets-then}
 use Rattle.trials.specs.Fillers.{numbered}
 use Rattle.trials.specs.Trials.{below, dotted}
-use Rattle.trials.proofs.Bounds.{made-short}
+use Rattle.trials.proofs.Bounds.{pattern-short, pattern-permitted}
 use Rattle.grants.specs.Scratch.{stemPath}
-
--- a pattern is of a permitted kind, and short
-pub pattern-permitted : (t : Text) → isPattern t ≡ true → isPermitted (kindOf t) ≡ true
-unfolding isPattern
-pattern-permitted t h =
-    and-right (not (endsWith (bytes " ") t)) (isPermitted (kindOf t)) (and-right (madeOf isText 0 255 t) (not (endsWith (bytes " ") t) && isPermitted (kindOf t)) h)
-
-pub pattern-short : (t : Text) → isPattern t ≡ true → length t ≤ 255
-unfolding isPattern
-pattern-short t h = made-short isText 0 255 t (and-left (madeOf isText 0 255 t) (not (endsWith (bytes " ") t) && isPermitted (kindOf t)) h)
 
 -- ---- p`/`filler
 abbrev filler : ℕ → Text

@@ -25,18 +25,47 @@ pub fn are_same(t: &[u8], u: &[u8]) -> bool
     true
 }
 
-// Whether t has the byte b.
+// Whether t has the byte b, every byte looked at: such a loop the compiler makes one over 32 bytes at a time.
+pub fn any_is(b: u8, t: &[u8]) -> bool
+    ensures { λ r. ⌜ r ≡ has b (now (t .entry)) ⌝ }
+{
+    let mut found = false;
+    let mut i = 0;
+    while i < t.len() {
+        found = found | (b == t[i]);
+        i += 1;
+    }
+    found
+}
+
+// Whether t, of at most 32 bytes, has the byte b: all of it, or its first 8 or 16 bytes and as many at its end, which may be the same.
+pub fn ends_have(b: u8, t: &[u8]) -> bool
+    requires { ⌜ length (now t) ≤ 32 ⌝ }
+    ensures { λ r. ⌜ r ≡ has b (now (t .entry)) ⌝ }
+{
+    let n = t.len();
+    if n < 8 {
+        return any_is(b, t);
+    }
+    if n < 16 {
+        let e = n - 8;
+        return any_is(b, &t[0..8]) | any_is(b, &t[e..]);
+    }
+    let e = n - 16;
+    any_is(b, &t[0..16]) | any_is(b, &t[e..])
+}
+
+// Whether t has the byte b. A text of 32 bytes and more is looked at in whole 32s, then its last 32.
 pub fn has_byte(b: u8, t: &[u8]) -> bool
     ensures { λ r. ⌜ r ≡ has b (now (t .entry)) ⌝ }
 {
-    let mut i = 0;
-    while i < t.len() {
-        if t[i] == b {
-            return true;
-        }
-        i += 1;
+    let n = t.len();
+    if n < 32 {
+        return ends_have(b, t);
     }
-    false
+    let whole = n - n % 32;
+    let last = n - 32;
+    any_is(b, &t[0..whole]) | any_is(b, &t[last..])
 }
 
 // Whether t starts with the prefix p.

@@ -1,17 +1,19 @@
--- The trials of two accepted listings are requests that a call can ask: their fillers exist, and their paths, methods and callers are well formed.
-use mathlib.Core.Path.{_≡_, refl, sym, _∙_}
-use mathlib.Core.Bool.{Bool, true, false}
+-- The trials of two accepted listings are requests that a call can ask: their fillers exist, their paths, methods and callers are well formed,
+-- and their paths have no parameters.
+use mathlib.Core.Path.{_≡_, refl, sym, ap, _∙_}
+use mathlib.Core.Bool.{Bool, true, false, not, _&&_}
 use mathlib.Core.List.{List, [], _∷_, _++_, map, List·Memᴰ, List·Memᴰ·head, List·Memᴰ·tail, List·Memᴰ·cases-cons, List·Memᴰ·eq-of-singleton, List·Memᴰ·append-cases, Memᴰ·of-map}
 use mathlib.Core.Logic.{_⊎_, inl, inr, ⊎-elim}
 use mathlib.Core.Option.{some}
 use Prim.Native.Nat.{ℕ, _+_, _*_, _≤_, _<_}
 use native.Mathlib.Omega.{arith}
 use lib.ListN.{length, length-append}
-use lib.Dec.{leb}
-use borrow.Author.Tests.{le-leb, leb-true, ne-eqb}
-use Rattle.text.specs.Texts.{Text, bytes, newline, slash, dot, all, startsWith, member}
+use lib.Dec.{eqb, leb}
+use borrow.Author.Tests.{le-leb, leb-true, ne-eqb, not-true}
+use Rattle.text.specs.Texts.{Text, bytes, newline, slash, dot, semicolon, has, all, startsWith, endsWith, member}
 use Rattle.text.specs.Bytes.{between, isText, isToken}
 use Rattle.text.specs.Lines.{before, linesOf}
+use Rattle.names.specs.Patterns.{kindOf, isPermitted}
 use Rattle.names.specs.Names.{madeOf, isName, isRoleName, isMethodName, isPattern}
 use Rattle.limits.specs.Limits.{mostMethods}
 use Rattle.listings.specs.Listings.{Listing, patternsOf}
@@ -19,12 +21,13 @@ use Rattle.text.proofs.Truths.{never, and-left, and-right, and-both, or-left, o
 use Rattle.text.proofs.Classes.{text-no-newline}
 use Rattle.names.proofs.Plainly.{member-plain, member-append}
 use Rattle.listings.specs.Propers.{Proper}
+use Rattle.decisions.proofs.Droppings.{dropped-none}
 use Rattle.decisions.specs.Requests.{Caller, nobody, Request, isPath, allHeld, callerOf}
 use Rattle.trials.specs.Fillers.{firstNumber, fills, filler, isUnnamed, fillerMethod, fillerOf, First, Filler}
 use Rattle.trials.specs.Trials.{joined, trialPaths, methodsTried, trialMethods, one, trialNames, trialCallers}
 use Rattle.trials.specs.Verdicts.{WellFormed}
-use Rattle.trials.specs.Demands.{NobodyOrOne}
-use Rattle.trials.proofs.Insides.{or-first, or-second}
+use Rattle.trials.specs.Demands.{TrialPathsKept, NobodyOrOne}
+use Rattle.trials.proofs.Insides.{neither, or-first, or-second}
 use Rattle.trials.proofs.StandIns.{rooted}
 use Rattle.trials.proofs.Forms.{Form, trial-form, form-rooted, form-short, form-bytes}
 use Rattle.trials.proofs.FillersExist.{total, filler-is-first, filler-fills, filler-short, filler-bytes, method-is-first, method-unnamed, method-short, method-bytes}
@@ -85,12 +88,27 @@ module _ (class : ℕ → Bool) (lo hi : ℕ) (t : Text) where
   pub made-bytes : madeOf class lo hi t ≡ true → all class t ≡ true
   made-bytes e = and-right (between lo hi (length t)) (all class t) e
 
--- what a pattern is made of
-pattern-bytes : (t : Text) → isPattern t ≡ true → all isText t ≡ true
-unfolding isPattern
-pattern-bytes t h = made-bytes isText 0 255 t (and-left (madeOf isText 0 255 t) _ h)
+-- ---- a pattern: short, of text bytes, without a `;`, of a permitted kind
+module _ (t : Text) (h : isPattern t ≡ true) where
+  pub pattern-short : length t ≤ 255
+  unfolding isPattern
+  pattern-short = made-short isText 0 255 t (and-left (madeOf isText 0 255 t) _ h)
 
--- and a role name
+  pattern-bytes : all isText t ≡ true
+  unfolding isPattern
+  pattern-bytes = made-bytes isText 0 255 t (and-left (madeOf isText 0 255 t) _ h)
+
+  marks-and-kind : (not (has semicolon t) && isPermitted (kindOf t)) ≡ true
+  unfolding isPattern
+  marks-and-kind = and-right (not (endsWith (bytes " ") t)) _ (and-right (madeOf isText 0 255 t) _ h)
+
+  pattern-unmarked : has semicolon t ≡ false
+  pattern-unmarked = not-true (has semicolon t) (and-left (not (has semicolon t)) (isPermitted (kindOf t)) marks-and-kind)
+
+  pub pattern-permitted : isPermitted (kindOf t) ≡ true
+  pattern-permitted = and-right (not (has semicolon t)) (isPermitted (kindOf t)) marks-and-kind
+
+-- what a role name is made of
 pub role-made : (n : Text) → isRoleName n ≡ true → madeOf isText 1 64 n ≡ true
 unfolding isRoleName isName
 role-made n h = and-left (madeOf isText 1 64 n) _ (and-left (isName n) _ h)
@@ -100,6 +118,21 @@ rooted-some : (t : Text) → rooted t → 1 ≤ length t
 unfolding startsWith
 rooted-some [] h = absurd (never false h refl)
 rooted-some (x ∷ xs) h = omega arith
+
+-- ---- a text without a byte
+isOther : ℕ → ℕ → Bool
+isOther b x = not (eqb b x)
+
+without-all : (b : ℕ) (t : Text) → has b t ≡ false → all (isOther b) t ≡ true
+unfolding has all isOther
+without-all b [] h = refl
+without-all b (x ∷ xs) h = rw (or-left (eqb b x) (has b xs) h) (without-all b xs (or-right (eqb b x) (has b xs) h))
+
+all-without : (b : ℕ) (t : Text) → all (isOther b) t ≡ true → has b t ≡ false
+unfolding has all isOther
+all-without b [] h = refl
+all-without b (x ∷ xs) h =
+    neither (eqb b x) (has b xs) (not-true (eqb b x) (and-left (not (eqb b x)) (all (isOther b) xs) h)) (all-without b xs (and-right (not (eqb b x)) (all (isOther b) xs) h))
 
 -- ---- a role name in a line of its own is a caller's
 one-line : (n : Text) → all isText n ≡ true → linesOf (n ++ newline ∷ []) ≡ record { bytes = n; ended = true } ∷ []
@@ -212,6 +245,21 @@ module _ (old new : Listing) (O : Proper old) (N : Proper new) where
       (form-bytes isText text-slash text-dot ts
       (each (λ (t : Text). all isText t ≡ true) (patternsOf new) (patternsOf old) (λ t i. pattern-bytes t (N .good-patterns t i)) (λ t i. pattern-bytes t (O .good-patterns t i)))
       (filler ts) (filler-bytes isText text-q digit-text ts) x F)) r
+
+  -- it has no `;`: the patterns have none, and the filler has none
+  pub path-unmarked : (x : Text) → List·Memᴰ x (trialPaths old new) → has semicolon x ≡ false
+  unfolding isOther fillerOf
+  path-unmarked x m =
+      let ts : List Text = patternsOf new ++ patternsOf old in
+      all-without semicolon x
+      (form-bytes (isOther semicolon) refl refl ts
+      (each (λ (t : Text). all (isOther semicolon) t ≡ true) (patternsOf new) (patternsOf old)
+      (λ t i. without-all semicolon t (pattern-unmarked t (N .good-patterns t i))) (λ t i. without-all semicolon t (pattern-unmarked t (O .good-patterns t i))))
+      (filler ts) (filler-bytes (isOther semicolon) refl (λ d h. ap not (ne-eqb semicolon (48 + d) (λ e. omega arith))) ts) x (form-of x m))
+
+  -- so it is decided on as it is
+  pub trial-path-kept : TrialPathsKept old new
+  trial-path-kept x m = (path-unmarked x m, dropped-none x (path-unmarked x m))
 
   -- a trial method is a method
   pub method-good : (x : Text) → List·Memᴰ x (trialMethods old new) → isMethodName x ≡ true

@@ -1,7 +1,7 @@
 -- The loops find the verdict: for each trial path, for each trial method, the first caller by whom each listing admits there.
-use mathlib.Core.Path.{_≡_, refl, ap, fun-ext, _∙_}
+use mathlib.Core.Path.{_≡_, refl, ap, ap₂, fun-ext, _∙_}
 use mathlib.Core.Bool.{Bool, true, false, not, cond}
-use mathlib.Core.List.{List, [], _∷_, _++_, map, flatMap, map-append, List·Memᴰ}
+use mathlib.Core.List.{List, [], _∷_, _++_, map, flatMap, map-append, List·Memᴰ, List·Memᴰ·head, List·Memᴰ·tail}
 use mathlib.Core.Option.{Option, none, some, Option·map}
 use borrow.Author.Tests.{not-true}
 use Rattle.text.specs.Texts.{Text, first}
@@ -10,6 +10,7 @@ use Rattle.listings.specs.Propers.{Proper}
 use Rattle.text.proofs.Truths.{never, not-so, and-left, and-right, and-both}
 use Rattle.names.proofs.Plainly.{member-plain}
 use Rattle.decisions.specs.Matching.{best}
+use Rattle.decisions.specs.Paths.{dropped}
 use Rattle.decisions.specs.Requests.{Caller, request}
 use Rattle.decisions.specs.Combining.{Access, hasRole}
 use Rattle.decisions.specs.Decisions.{combinedFor, decide, may}
@@ -18,6 +19,7 @@ use Rattle.trials.specs.Trials.{joined, further, callersWith, one, trial
 use Rattle.trials.specs.Verdicts.{widens, verdict}
 use Rattle.trials.specs.Loops.{orElse, firstSome, isFresh, shownAt, shown}
 use Rattle.trials.proofs.Choices.{first-none, none-first}
+use Rattle.trials.proofs.Bounds.{trial-path-kept}
 use Rattle.trials.proofs.Widenings.{StandsFor, caller-for, denied-too}
 
 -- ---- the first that passes, of lists made of others
@@ -51,7 +53,14 @@ first-map {A} {B} test g (x ∷ xs) = go (test (g x)) (first-map test g xs)
     go true ih = refl
     go false ih = ih
 
--- answers that are the same for each
+-- answers that are the same for each of a list
+some-alike-in : {A B : Type 0} (f g : A → Option B) (xs : List A) → ((x : A) → List·Memᴰ x xs → f x ≡ g x) → firstSome f xs ≡ firstSome g xs
+unfolding firstSome
+some-alike-in f g [] h = refl
+some-alike-in {A} {B} f g (x ∷ xs) h =
+    ap₂ (λ (o : Option B) (r : Option B). elim o [ none ↦ r | some b ↦ some b ]) (h x (List·Memᴰ·head refl)) (some-alike-in f g xs (λ y i. h y (List·Memᴰ·tail i)))
+
+-- and for each of all
 some-alike : {A B : Type 0} (f g : A → Option B) → ((x : A) → f x ≡ g x) → (xs : List A) → firstSome f xs ≡ firstSome g xs
 some-alike f g h xs = ap (λ (k : _ → Option _). firstSome k xs) (fun-ext h)
 
@@ -82,19 +91,25 @@ names-of-new a b ns os known =
         never (isFresh b a (S .0)) (fresh-too a b c (S .0) ns (S .1) h) (first-none (isFresh b a) (callersWith ns) e (S .0) (S .1 .listed))
 
 -- ---- the verdict
-module _ (old new : Listing) (N : Proper new) where
-  at-shown : (p m : Text) → first (widens old new) (atMethod (trialCallers old new) p m) ≡ shownAt old new p m
+module _ (old new : Listing) (O : Proper old) (N : Proper new) where
+  -- of a path that is decided on as it is
+  at-shown : (p m : Text) → dropped p ≡ p → first (widens old new) (atMethod (trialCallers old new) p m) ≡ shownAt old new p m
   unfolding widens decide isFresh shownAt trialCallers trialNames joined combinedFor
-  at-shown p m =
+  at-shown p m e =
       first-map (widens old new) (request p m) (trialCallers old new)
-      ∙ ap (Option·map (request p m)) (names-of-new (combinedFor new p m) (combinedFor old p m) (new .roles) (further (new .roles) (old .roles)) named)
+      ∙ ap (Option·map (request p m)) (names-of-new (combinedFor new (dropped p) m) (combinedFor old (dropped p) m) (new .roles) (further (new .roles) (old .roles)) named)
+      ∙ ap (λ (q : Text). Option·map (request p m) (first (isFresh (combinedFor old q m) (combinedFor new q m)) (callersWith (new .roles)))) e
     where
-      named : (n : Text) → hasRole (combinedFor new p m) n ≡ true → List·Memᴰ n (new .roles)
-      named n h = member-plain n (new .roles) .0 (role-named new N m n (best (patternsOf new) p) h)
+      named : (n : Text) → hasRole (combinedFor new (dropped p) m) n ≡ true → List·Memᴰ n (new .roles)
+      named n h = member-plain n (new .roles) .0 (role-named new N m n (best (patternsOf new) (dropped p)) h)
 
-  pub path-shown : (p : Text) → first (widens old new) (atPath (trialCallers old new) (trialMethods old new) p) ≡ firstSome (λ (m : Text). shownAt old new p m) (trialMethods old new)
-  path-shown p = first-flat (widens old new) (atMethod (trialCallers old new) p) (trialMethods old new) ∙ some-alike _ _ (at-shown p) (trialMethods old new)
+  path-shown : (p : Text) → dropped p ≡ p
+      → first (widens old new) (atPath (trialCallers old new) (trialMethods old new) p) ≡ firstSome (λ (m : Text). shownAt old new p m) (trialMethods old new)
+  path-shown p e = first-flat (widens old new) (atMethod (trialCallers old new) p) (trialMethods old new) ∙ some-alike _ _ (λ m. at-shown p m e) (trialMethods old new)
 
+  -- as every trial path is
   pub verdict-shown : verdict old new ≡ shown old new
   unfolding verdict trials shown
-  verdict-shown = first-flat (widens old new) (atPath (trialCallers old new) (trialMethods old new)) (trialPaths old new) ∙ some-alike _ _ path-shown (trialPaths old new)
+  verdict-shown =
+      first-flat (widens old new) (atPath (trialCallers old new) (trialMethods old new)) (trialPaths old new)
+      ∙ some-alike-in _ _ (trialPaths old new) (λ p i. path-shown p (trial-path-kept old new O N p i .1))

@@ -12,12 +12,14 @@ use Rattle.text.proofs.Truths.{never, not-so, and-left, and-right, and-both}
 use Rattle.names.proofs.Plainly.{member-plain}
 use Rattle.listings.proofs.Lines.{flat-in, flat-of}
 use Rattle.decisions.specs.Matching.{best}
+use Rattle.decisions.specs.Paths.{dropped}
 use Rattle.decisions.specs.Requests.{Caller, nobody, holder, Extends, Request, request}
 use Rattle.decisions.specs.Combining.{Access, closed, free, roles, anyOf, hasRole}
 use Rattle.decisions.specs.Decisions.{combinedAt, combinedFor, answerTo, decide, isGrant, may}
 use Rattle.decisions.proofs.Anys.{any-plain}
 use Rattle.decisions.proofs.Takings.{role-named}
 use Rattle.decisions.proofs.Unnamed.{unnamed-alike}
+use Rattle.decisions.proofs.Droppings.{dropped-rooted}
 use Rattle.decisions.proofs.Promises.{roles-grant, access-keeps}
 use Rattle.trials.specs.Fillers.{fillerMethod, fillerOf}
 use Rattle.trials.specs.Trials.{joined, trialPaths, methodsTried, trialMethods, one, callersWith, trialNames, trialCallers, atMethod, atPath, trials}
@@ -25,7 +27,7 @@ use Rattle.trials.specs.Verdicts.{Widening, widens}
 use Rattle.trials.proofs.StandIns.{rooted, trial-path}
 use Rattle.trials.proofs.Alikes.{best-alike}
 use Rattle.trials.proofs.Choices.{joined-first, joined-second}
-use Rattle.trials.proofs.Bounds.{filler-of-fills, unnamed-in-both}
+use Rattle.trials.proofs.Bounds.{filler-of-fills, unnamed-in-both, trial-path-kept}
 
 -- ---- what is found to widen is what widens
 pub widens-plain : (old new : Listing) (r : Request) → (widens old new r ≡ true) ↔ Widening old new r
@@ -141,30 +143,32 @@ module _ (old new : Listing) (O : Proper old) (N : Proper new) where
         unnamed-alike f q old O (unnamed .1) e,
       )
 
-  -- a trial path and a trial method to which both listings come as to the request's
+  -- a trial path, which is decided on as it is, and a trial method to which both listings come as to the path and the method
   abbrev BothLike : Text → Text → Text → Text → Type 0
-  BothLike x y path m = (combinedFor new x y ≡ combinedFor new path m) × (combinedFor old x y ≡ combinedFor old path m)
+  BothLike x y path m = (combinedFor new (dropped x) y ≡ combinedFor new path m) × (combinedFor old (dropped x) y ≡ combinedFor old path m)
 
   stand-in-for : (path m : Text) → rooted path → (x : Text) × (y : Text) × List·Memᴰ x (trialPaths old new) × List·Memᴰ y (trialMethods old new) × BothLike x y path m
   unfolding combinedFor
   stand-in-for path m s =
       let P = path-for path s in
       let M = method-for m in
-      let at : (l : Listing) → best (patternsOf l) (P .0) ≡ best (patternsOf l) path → Like l (M .0) m → combinedAt l (best (patternsOf l) (P .0)) (M .0) ≡ combinedAt l (best (patternsOf l) path) m
-      = λ l e h. ap (λ (b : Option Text). combinedAt l b (M .0)) e ∙ h (best (patternsOf l) path) in
+      let k = trial-path-kept old new O N (P .0) (P .1) .1 in
+      let at : (l : Listing) → best (patternsOf l) (P .0) ≡ best (patternsOf l) path → Like l (M .0) m → combinedAt l (best (patternsOf l) (dropped (P .0))) (M .0) ≡ combinedAt l (best (patternsOf l) path) m
+      = λ l e h. ap (λ (x : Text). combinedAt l (best (patternsOf l) x) (M .0)) k ∙ ap (λ (b : Option Text). combinedAt l b (M .0)) e ∙ h (best (patternsOf l) path) in
       (P .0, M .0, P .1, M .1, (at new (P .2) (M .2), at old (P .3) (M .3)))
 
+  -- for the path as received the stand-in is sought of the one without parameters
   pub trial-for : (r : Request) → rooted (r .path) → Widening old new r → (x : Request) × List·Memᴰ x (trials old new) × Widening old new x
   unfolding decide combinedFor trialCallers trialNames
   trial-for r s W =
-      let P = stand-in-for (r .path) (r .method) s in
-      let a : Access = combinedFor new (P .0) (P .1) in
-      let b : Access = combinedFor old (P .0) (P .1) in
+      let P = stand-in-for (dropped (r .path)) (r .method) (dropped-rooted (r .path) s) in
+      let a : Access = combinedFor new (dropped (P .0)) (P .1) in
+      let b : Access = combinedFor old (dropped (P .0)) (P .1) in
       let granted : may a (r .caller) ≡ true = rw (P .4 .0) (W .granted) in
       let denied : may b (r .caller) ≡ false = rw (P .4 .1) (W .denied) in
       let C =
       caller-for a (trialNames old new)
-      (λ n h. joined-first n (new .roles) (old .roles) (member-plain n (new .roles) .0 (role-named new N (P .1) n (best (patternsOf new) (P .0)) h)))
+      (λ n h. joined-first n (new .roles) (old .roles) (member-plain n (new .roles) .0 (role-named new N (P .1) n (best (patternsOf new) (dropped (P .0))) h)))
       (r .caller) granted in
       let x : Request = request (P .0) (P .1) (C .0) in (
         x,

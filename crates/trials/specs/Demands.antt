@@ -1,22 +1,27 @@
--- What is proved of comparing, in the customer's words, as types: proofs/NoWider and proofs/AnswersTell have the proofs.
+-- What is proved of comparing, in the customer's words, as types: proofs/NoWider, proofs/Bounds and proofs/AnswersTell have the proofs.
 use mathlib.Core.Path.{_≡_}
-use mathlib.Core.Bool.{true}
+use mathlib.Core.Bool.{true, false}
 use mathlib.Core.List.{List, _∷_, _++_, List·Memᴰ}
 use mathlib.Core.Logic.{_⊎_, _↔_}
 use mathlib.Core.Option.{none, some}
 use Prim.Native.Nat.{_≤_}
 use lib.ListN.{length}
-use Rattle.text.specs.Texts.{Text}
+use Rattle.text.specs.Texts.{Text, semicolon, has}
 use Rattle.names.specs.Names.{isRoleName}
 use Rattle.listings.specs.Listings.{Listing}
+use Rattle.decisions.specs.Paths.{dropped}
 use Rattle.decisions.specs.Requests.{Caller, nobody, Request}
-use Rattle.trials.specs.Trials.{one, trials}
+use Rattle.trials.specs.Trials.{one, trialPaths, trials}
 use Rattle.trials.specs.Verdicts.{WellFormed, Widening, verdict}
 use Rattle.trials.specs.Answers.{answerOf}
 
--- no trial widens exactly when no request at all is granted by new and denied by old
+-- no trial widens exactly when no request at all, whatever its path as received, is granted by new and denied by old
 abbrev pub NoWider : Listing → Listing → Type 0
 NoWider old new = (verdict old new ≡ none) ↔ ((r : Request) → WellFormed r → Widening old new r → ⊥)
+
+-- "Trial paths stay": none has a `;`, so each is what is left of it without parameters
+abbrev pub TrialPathsKept : Listing → Listing → Type 0
+TrialPathsKept old new = (x : Text) → List·Memᴰ x (trialPaths old new) → (has semicolon x ≡ false) × (dropped x ≡ x)
 
 -- not logged in, or logged in with one role
 abbrev pub NobodyOrOne : Caller → Type 0

@@ -10,12 +10,10 @@ use native.Mathlib.Omega.{arith}
 use lib.ListN.{length, take, getD, length-append}
 use lib.Dec.{eqb}
 use borrow.Author.Tests.{lt-ltb, le-ltb}
-use Rattle.text.specs.Texts.{Text, bytes, slash, dot, member, endsWith}
-use Rattle.text.specs.Bytes.{isText}
-use Rattle.names.specs.Names.{madeOf, isPattern}
+use Rattle.text.specs.Texts.{Text, slash, dot, member}
 use Rattle.names.specs.Patterns.{PatternKind, exact, prefix, extension, default, unpermitted, kindOf, isPermitted}
 use Rattle.listings.specs.Listings.{Listing, patternsOf}
-use Rattle.text.proofs.Truths.{never, and-right}
+use Rattle.text.proofs.Truths.{never}
 use Rattle.reading.specs.Views.{View, texts, viewOf}
 use Rattle.reading.proofs.Viewings.{texts-of}
 use Rattle.listings.specs.Propers.{Proper}
@@ -27,7 +25,7 @@ use Rattle.trials.specs.Fillers.{filler as fillerIn, fillerOf, Filler}
 use Rattle.trials.specs.Trials.{below, dotted, extensionIn, extensions, pathsOfKind, pathsFor, trialPaths, methodsTried, trialMethods}
 use Rattle.trials.specs.Loops.{orElse, firstSome, shown}
 use Rattle.trials.specs.Verdicts.{verdict}
-use Rattle.trials.proofs.Bounds.{filler-of-fills}
+use Rattle.trials.proofs.Bounds.{pattern-permitted, filler-of-fills}
 use Rattle.trials.proofs.Loops.{verdict-shown}
 use Rattle.trials.proofs.Turns.{some-none, some-one, paths-by-lines, paths-below, extensions-by-lines}
 use Rattle.grants.specs.Sides.{callerAt, placeIn, placeOf, Ready}
@@ -42,12 +40,6 @@ use Rattle.walks.specs.Walks.{caughtAt, caughtBehind, behindFrom, behind
 use Rattle.walks.specs.declared.walking.Hit.{Hit}
 use Rattle.walks.specs.declared.walking.Hit.the-variants as H
 use Rattle.walks.proofs.Firsts.{firstFrom, from-none, from-more, from-alike, from-last, anew, anew-again, anew-here, anew-first}
-
--- a pattern is of a permitted kind
-pattern-permitted : (t : Text) → isPattern t ≡ true → isPermitted (kindOf t) ≡ true
-unfolding isPattern
-pattern-permitted t h =
-    and-right (not (endsWith (bytes " ") t)) (isPermitted (kindOf t)) (and-right (madeOf isText 0 255 t) (not (endsWith (bytes " ") t) && isPermitted (kindOf t)) h)
 
 -- ---- the walk as the first answer of places, whatever the numbers are
 module _ (old new : View) (x : List ℕ) (c : Counts) where
@@ -292,7 +284,7 @@ module _ (old new : Listing) (O : Proper old) (N : Proper new) (x : List ℕ) (c
 
   verdict-by-lines : verdict old new ≡ orElse (firstSome lineShown ts) (shownOn old new (below [] filler))
   unfolding shown shownOn pathsFor
-  verdict-by-lines = verdict-shown old new N ∙ ap (firstSome (shownOn old new)) paths-listed ∙ paths-by-lines (shownOn old new) filler es ts
+  verdict-by-lines = verdict-shown old new O N ∙ ap (firstSome (shownOn old new)) paths-listed ∙ paths-by-lines (shownOn old new) filler es ts
 
   -- the walk over the numbers finds the verdict
   pub walked-verdict : hitShown ov nv (walked x c) ≡ verdict old new

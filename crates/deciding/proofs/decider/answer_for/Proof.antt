@@ -1,38 +1,48 @@
--- `decider::answer_for` meets its contract: the line that leads, then what is joined for its text.
+-- `decider::answer_for` meets its contract: the path as it is, or what is left of it in a buffer.
+use native.Mathlib.Omega.{arith}
 use borrow.Author.Needs.{needs}
-use Rattle.deciding.proofs.Calls.{method-near, open-answer, leader-near, joined-answer}
+use Rattle.worktable.proofs.Lent.{lent-length}
+use Rattle.deciding.proofs.Calls.{path-short, unmarked-answer, marked-answer}
 use Rattle.deciding.proofs.decider.answer_for.Statement.{statement}
 use Rattle.deciding.proofs.decider.answer_for.Tie as tie
 
-strongest-requires : tie.Need-strongest-requires
-strongest-requires c κs = search needs
+has-byte-requires : tie.Need-has-byte-requires
+has-byte-requires c κs = search needs
+
+answer-at-requires : tie.Need-answer-at-requires
+answer-at-requires c κs = search needs
 
 returns : tie.Need-returns
-returns c = search (needs, open-answer)
+returns c = search (needs, unmarked-answer)
 
-method-index-requires : tie.Need-method-index-requires
-method-index-requires c κs = search needs
+slice-aggregate-drop-into : tie.Need-slice-aggregate-drop-into
+slice-aggregate-drop-into c = search needs
 
-pattern-requires : tie.Need-pattern-requires
-pattern-requires c κs = search (needs, leader-near)
+drop-into-requires : tie.Need-drop-into-requires
+drop-into-requires c κs = (search (needs, path-short), search needs)
 
-join-lines-requires : tie.Need-join-lines-requires
-join-lines-requires c κs = search (needs, method-near)
+array-share-prefix-kept : tie.Need-array-share-prefix-kept
+array-share-prefix-kept c = search needs
 
-answer-to-requires : tie.Need-answer-to-requires
-answer-to-requires c κs = search needs
+slice-aggregate-answer-at : tie.Need-slice-aggregate-answer-at
+slice-aggregate-answer-at c = let h = c .before .before .drop-into .ensures in lent-length _ _ (omega (arith, h .0, h .1 .1))
+
+answer-at-requires-2 : tie.Need-answer-at-requires-2
+answer-at-requires-2 c κs = search needs
 
 returns-2 : tie.Need-returns-2
-returns-2 c = search (needs, joined-answer)
+returns-2 c = search (needs, marked-answer)
 
 pub answer-for-spec : {M : Type 1} → statement M
 answer-for-spec =
     tie.close
     (tie.spec
-    strongest-requires
+    has-byte-requires
+    answer-at-requires
     returns
-    method-index-requires
-    pattern-requires
-    join-lines-requires
-    answer-to-requires
+    slice-aggregate-drop-into
+    drop-into-requires
+    array-share-prefix-kept
+    slice-aggregate-answer-at
+    answer-at-requires-2
     returns-2)

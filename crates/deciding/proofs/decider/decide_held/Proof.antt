@@ -1,6 +1,6 @@
 -- `decider::decide_held` meets its contract: a refusal for each test, then the answer.
 use borrow.Author.Needs.{needs}
-use Rattle.deciding.proofs.Calls.{path-refused, method-refused, caller-refused, request-answered}
+use Rattle.deciding.proofs.Calls.{path-good, path-refused, method-refused, caller-refused, request-answered}
 use Rattle.deciding.proofs.decider.decide_held.Statement.{statement}
 use Rattle.deciding.proofs.decider.decide_held.Tie as tie
 
@@ -38,7 +38,7 @@ enum-known-h : tie.Need-enum-known-h
 enum-known-h c = search needs
 
 answer-for-requires : tie.Need-answer-for-requires
-answer-for-requires c κs = search needs
+answer-for-requires c κs = (search needs, search (needs, path-good))
 
 number-requires : tie.Need-number-requires
 number-requires c κs = search needs
