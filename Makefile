@@ -14,7 +14,7 @@ SEED ?= $(shell date +%s)
 SOAK ?= 3000000
 PREFIX ?= /usr/local
 VERSION = $(shell sed -n 's/.*BUDQUARRY_VERSION "\(.*\)"/\1/p' include/budquarry.h)
-CRATES = text worktable writing limits names listings decisions entries reading matching callers deciding trials fillers grants numbers walks showing comparisons comparing library
+CRATES = text worktable writing limits names listings decisions entries reading matching callers deciding trials fillers grants firsts numbers walks showing comparisons comparing library
 PARTS = command/comparing.c command/json.c command/accept.c command/words.c command/causes.c command/warnings.c command/widenings.c command/listing.c command/showing.c
 COMMAND = command/budquarry.c $(PARTS)
 
@@ -104,7 +104,7 @@ YARDSTICKS = build/yardstick.o build/walk.o build/scalar.o
 INPUTS = bench/inputs.h bench/full.h include/budquarry.h
 build/stack: bench/stack.c $(INPUTS) build/generate.o build/libbudquarry.a
 	$(X86) cc $(WARN) -O2 -static bench/stack.c build/generate.o build/libbudquarry.a -o $@
-build/calls: bench/calls.c bench/grown.h $(INPUTS) build/generate.o $(YARDSTICKS) build/libbudquarry.a
+build/calls: bench/calls.c bench/grown.h bench/hostile.h $(INPUTS) build/generate.o $(YARDSTICKS) build/libbudquarry.a
 	$(X86) cc $(WARN) -O2 -static bench/calls.c build/generate.o $(YARDSTICKS) build/libbudquarry.a -o $@
 
 # Linked to Debian's libmicrohttpd, so not static. The checked one stops at a bad access, and at the end at a leak; it needs x86-64 itself.

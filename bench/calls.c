@@ -8,6 +8,7 @@
 #include "../include/budquarry.h"
 #include "../second/yardstick.h"
 #include "grown.h"
+#include "hostile.h"
 #include "inputs.h"
 
 /* yardstick.c with YARDSTICK_WALK */
@@ -55,6 +56,8 @@ static unsigned long choose(const char *what, unsigned size) {
         method = "M4";
         names = "role1\nrole2\n";
     }
+    size_t other = 0, hostile_len = hostile_pair(what, old_room, new_room, &other);
+    if (hostile_len) give(old_room, hostile_len, new_room, other);
     if (!strcmp(what, "bytes")) {
         give(old_room, grown_bytes(old_room, size), NULL, 0);
         return old_len;

@@ -24,7 +24,7 @@ use Rattle.comparisons.specs.Outcomes.{Compared, comparedBoth, comparedOld, com
 use Rattle.grants.specs.Scratch.{Numbered}
 use Rattle.grants.specs.declared.scratch.Counts.{Counts}
 use Rattle.numbers.specs.Writes.{BothHeld, oldView, newView}
-use Rattle.numbers.specs.declared.pairs.Pair.{Pair}
+use Rattle.firsts.specs.declared.pairs.Pair.{Pair}
 use Rattle.comparing.specs.Tellings.{BothRead, Prepared, IsFiller, comparedHit}
 use Rattle.comparing.proofs.Tellings.{listings-told}
 use Rattle.walks.specs.Walks.{walked}

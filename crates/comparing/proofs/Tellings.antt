@@ -25,7 +25,7 @@ use Rattle.walks.specs.declared.walking.Hit.the-variants as H
 use Rattle.walks.proofs.Hits.{walkable, hit-behind, hit-method, hit-caller}
 use Rattle.walks.proofs.Verdict.{walked-verdict}
 use Rattle.numbers.specs.Writes.{oldView, newView}
-use Rattle.numbers.specs.declared.pairs.Pair.{Pair}
+use Rattle.firsts.specs.declared.pairs.Pair.{Pair}
 use Rattle.showing.specs.Shown.{triedOf, Telling, EndingIn, FoundIn, foundRequest}
 use Rattle.showing.proofs.Pieces.{wider-short}
 use Rattle.comparisons.specs.Outcomes.{answered, comparedBoth, comparisonFor, answerFor}

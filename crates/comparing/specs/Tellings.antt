@@ -11,7 +11,7 @@ use Rattle.trials.specs.Answers.{answerOf}
 use Rattle.grants.specs.Scratch.{textsOf, Numbered}
 use Rattle.grants.specs.declared.scratch.Counts.{Counts}
 use Rattle.numbers.specs.Writes.{BothHeld, oldView, newView}
-use Rattle.numbers.specs.declared.pairs.Pair.{Pair}
+use Rattle.firsts.specs.declared.pairs.Pair.{Pair}
 use Rattle.walks.specs.Walks.{hitShown}
 use Rattle.walks.specs.declared.walking.Hit.{Hit}
 use Rattle.walks.specs.declared.walking.Hit.the-variants as H

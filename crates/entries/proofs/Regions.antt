@@ -8,14 +8,14 @@ use native.Mathlib.Numerals.{add-one}
 use native.Mathlib.Omega.{arith}
 use native.Mathlib.Decide.{decLt}
 use lib.ListN.{length, take, drop, getD, set, length-take, length-drop, length-map, drop-of-length-le, List·getD-map}
-use lib.Seq.{take-set-le, drop-set-lt, drop-set-add, take-suc, take-suc-set, getD-take, getD-drop, drop-cons, length-take-le, take-nil}
+use lib.Seq.{take-set-le, drop-set-lt, drop-set-add, take-suc, take-suc-set, getD-take, getD-drop, drop-cons, take-nil}
 use lib.Arith.{digits-div, digits-mod}
-use borrow.Author.Tests.{lt-ltb, le-ltb, eq-eqb, ne-eqb, eqb-true, eqb-false, le-leb, lt-leb, leb-true, not-true}
-use lib.Dec.{eqb, leb}
+use borrow.Author.Tests.{lt-ltb, le-ltb, eq-eqb, ne-eqb, eqb-true, eqb-false, le-leb, lt-leb}
+use lib.Dec.{eqb}
 use Rattle.text.specs.Texts.{Text, same, startsWith, onLast, part, indexOf}
-use Rattle.entries.specs.Tables.{region, stampOf, packed, stamped, textAt, textsAt, Skips, indexed, spanned, spanAt, otherLength, spansAt}
-use Rattle.text.proofs.Truths.{never, not-so}
-use Rattle.text.proofs.Spans.{same-equal, same-self, same-lengths, starts-short, starts-same, from-on}
+use Rattle.entries.specs.Tables.{region, stampOf, packed, stamped, textAt, textsAt, Skips, indexed, spanned, spanAt, spansAt}
+use Rattle.text.proofs.Truths.{not-so}
+use Rattle.text.proofs.Spans.{same-equal, same-lengths, starts-short, starts-same, from-on}
 use Rattle.names.proofs.Plainly.{same-swap}
 
 -- ---- stamps
@@ -186,42 +186,6 @@ module _ (s : Text) (x f n : ℕ) (p : f ≡ x / 65536) (q : n ≡ x % 65536) wh
 pub span-none : (s : Text) → spanAt s 0 ≡ []
 unfolding spanAt
 span-none s = rw (le-leb 0 (length s) (omega arith))
-
--- the test on its length, and on none
-pub length-none : (x : ℕ) (t : Text) → length t ≡ 0 → false ≡ otherLength x t
-unfolding otherLength
-length-none x t e = rw e
-
-pub length-some : (x n : ℕ) (t : Text) → (length t ≡ 0 → ⊥) → n ≡ x % 65536 → not (eqb n (length t)) ≡ otherLength x t
-unfolding otherLength
-length-some x n t some e = rw (ne-eqb (length t) 0 some, e)
-
--- texts whose ends differ do
-pub ends-differ : (k : ℕ) (u t : Text) (r : Bool) → length u ≡ length t → r ≡ same (part k (length u) u) (part k (length t) t) → not r ≡ true → false ≡ same u t
-ends-differ k u t r l e h = sym (not-so (same u t) (λ y. never r (e ∙ alike (same-equal u t y)) (not-true r h)))
-  where
-    alike : u ≡ t → same (part k (length u) u) (part k (length t) t) ≡ true
-    alike q = rw q (same-self (part k (length t) t))
-
--- the test on the text
-pub span-same : (s : Text) (x : ℕ) (t u : Text) (r : Bool) → u ≡ spanAt s x → r ≡ same u t → r ≡ same (spanAt s x) t
-span-same s x t u r e q = q ∙ ap (λ (v : Text). same v t) e
-
--- a text of another length is another
-pub span-other : (s : Text) (x : ℕ) (t : Text) (r : Bool) → r ≡ otherLength x t → r ≡ true → false ≡ same (spanAt s x) t
-unfolding otherLength spanAt
-span-other s x t r e yes-so = go (eqb (length t) 0) refl (sym e ∙ yes-so)
-  where
-    lengths : (length t ≡ 0 → ⊥) → (x % 65536 ≡ length t → ⊥) → length (spanAt s x) ≡ length t → ⊥
-    lengths a b l = cut (leb (x / 65536 + x % 65536) (length s)) refl l
-      where
-        cut : (c : Bool) → leb (x / 65536 + x % 65536) (length s) ≡ c → length (cond c (take (x % 65536) (drop (x / 65536) s)) []) ≡ length t → ⊥
-        cut true c l = b (sym (length-take-le (x % 65536) (drop (x / 65536) s) (let k = leb-true (x / 65536 + x % 65536) (length s) c in let z = length-drop (x / 65536) s in omega arith)) ∙ l)
-        cut false c l = a (sym l)
-
-    go : (c : Bool) → eqb (length t) 0 ≡ c → cond c false (not (eqb (x % 65536) (length t))) ≡ true → false ≡ same (spanAt s x) t
-    go true c h = absurd (never false h refl)
-    go false c h = same-lengths (spanAt s x) t (lengths (eqb-false (length t) 0 c) (eqb-false (x % 65536) (length t) (not-true (eqb (x % 65536) (length t)) h)))
 
 -- the number of the text from a up to e
 pub span-part : (s : Text) (a e : ℕ) → a ≤ e → e ≤ length s → e - a < 256 → spanAt s (spanned a e) ≡ part a e s

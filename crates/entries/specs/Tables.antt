@@ -348,10 +348,6 @@ spanned a e = a * 65536 + (e - a)
 unfoldable pub spanAt : Text → ℕ → Text
 spanAt s x = cond (leb (x / 65536 + x % 65536) (length s)) (take (x % 65536) (drop (x / 65536) s)) []
 
--- it has another length than t, which is not empty
-unfoldable pub otherLength : ℕ → Text → Bool
-otherLength x t = cond (eqb (length t) 0) false (not (eqb (x % 65536) (length t)))
-
 unfoldable pub spansAt : Text → List ℕ → List Text
 unfolding spanAt
 spansAt s xs = map (spanAt s) xs

@@ -6,7 +6,7 @@ ghost use lib.Bits.{bitOr};
 ghost use mathlib.Core.Bool.{cond};
 ghost use Rattle.entries.specs.Sets.{withMember, withoutMember, lowest};
 ghost use Rattle.text.specs.Texts.{same, indexOf};
-ghost use Rattle.entries.specs.Tables.{stampOf, packed, textAt, textsAt, region, Skips, spanned, spanAt, otherLength};
+ghost use Rattle.entries.specs.Tables.{stampOf, packed, textAt, textsAt, region, Skips, spanned, spanAt};
 ghost use Rattle.entries.specs.Tallies.{startTally, tallyAt, tallyRole, tallyConstraint, tallyAllowed, tallyCollection, tallyPattern, tallyLine, tallyMethod};
 use listings::records::Place;
 use text::texts;
@@ -105,40 +105,6 @@ pub fn span_at(s: &[u8], x: u32) -> &[u8]
         return &s[0..0];
     }
     &s[from..to]
-}
-
-// Whether the text that x spans has another length than t, which is not empty.
-pub fn is_longer_or_shorter(x: u32, t: &[u8]) -> bool
-    ensures { λ r. ⌜ r ≡ otherLength x (now (t .entry)) ⌝ }
-{
-    if t.len() == 0 {
-        return false;
-    }
-    wide(x % 65536) != t.len()
-}
-
-// Whether they are the same. The ends of long ones are looked at first: patterns that differ often begin alike.
-pub fn are_alike(u: &[u8], t: &[u8]) -> bool
-    ensures { λ r. ⌜ r ≡ same (now (u .entry)) (now (t .entry)) ⌝ }
-{
-    if u.len() != t.len() {
-        return false;
-    }
-    let k = u.len() - u.len() / 32;
-    if !texts::are_same(&u[k..], &t[k..]) {
-        return false;
-    }
-    texts::are_same(u, t)
-}
-
-// Whether x spans t. Another length than t's tells at once that it does not, unless t is empty.
-pub fn spans(s: &[u8], x: u32, t: &[u8]) -> bool
-    ensures { λ r. ⌜ r ≡ same (spanAt (now (s .entry)) x) (now (t .entry)) ⌝ }
-{
-    if is_longer_or_shorter(x, t) {
-        return false;
-    }
-    are_alike(span_at(s, x), t)
 }
 
 // Whether x names t, whose stamp is `key`. With that stamp it does if t stands at its place; with another it does not, unless t is empty.

@@ -1,9 +1,9 @@
 -- A table of marked numbers, one bit for each number below 65,536: for the proofs alone.
-use Prim.Native.Nat.{ℕ, _/_, _%_, _<_}
+use Prim.Native.Nat.{ℕ, _/_, _%_, _≤_, _<_}
 use mathlib.Core.Path.{_≡_}
 use mathlib.Core.Bool.{Bool, not, _||_}
 use mathlib.Core.List.{List}
-use lib.ListN.{length, getD}
+use lib.ListN.{length, getD, drop}
 use lib.Dec.{eqb}
 use Rattle.text.specs.Texts.{Text, bytes, startsWith}
 use Rattle.entries.specs.Sets.{digit}
@@ -29,6 +29,11 @@ leads t n = startsWith (digits 5 n) t
 unfoldable pub within : Text → ℕ → Bool
 unfolding digits occurs
 within t n = occurs (numbered (bytes "q") n) t
+
+-- no `q` stands among the first k bytes of t
+pub record Passed (t : Text) (k : ℕ) : Type 0 where
+  pub fits : k ≤ length t
+  pub rest : (n : ℕ) → within t n ≡ within (drop k t) n
 
 -- inside one of the texts
 unfoldable pub withinAny : List Text → ℕ → Bool

@@ -8,7 +8,7 @@ ghost use lib.Dec.{eqb};
 ghost use Rattle.reading.specs.Holds.{Holds};
 ghost use Rattle.reading.specs.Views.{texts, viewAt};
 ghost use Rattle.trials.specs.Fillers.{numbered, firstNumber, fills, isUnnamed};
-ghost use Rattle.fillers.specs.Marks.{MarkedToo, leads, within, withinAny, isMarked};
+ghost use Rattle.fillers.specs.Marks.{MarkedToo, Passed, leads, within, withinAny, isMarked};
 use entries::tables::Tally;
 use reading::held;
 use reading::reader;
@@ -22,10 +22,11 @@ pub fn mark(marks: &mut [u32], n: usize)
     marks[k] = marks[k] | (1 << (n % 32) as u32);
 }
 
-// Marks the numbers below 65,536 that t starts with.
-pub fn mark_number(t: &[u8], marks: &mut [u32])
+// Marks the numbers below 65,536 that t starts with; how many of its digits it has passed by.
+pub fn mark_number(t: &[u8], marks: &mut [u32]) -> usize
     requires { ⌜ length (now marks) ≡ 2048 ⌝ }
-    ensures { λ _. ⌜ MarkedToo (leads (now (t .entry))) (now (marks .entry)) (now (marks .exit)) ⌝ }
+    ensures marked { λ _. ⌜ MarkedToo (leads (now (t .entry))) (now (marks .entry)) (now (marks .exit)) ⌝ }
+    ensures passed { λ r. ⌜ Passed (now (t .entry)) r ⌝ }
 {
     let n = t.len();
     let mut v: usize = 0;
@@ -33,21 +34,22 @@ pub fn mark_number(t: &[u8], marks: &mut [u32])
     while i < n {
         let b = t[i];
         if b < b'0' {
-            return;
+            return i;
         }
         if b'9' < b {
-            return;
+            return i;
         }
         v = v * 10 + (b - b'0') as usize;
         if 65535 < v {
-            return;
+            return i;
         }
         mark(marks, v);
         if v == 0 {
-            return;
+            return i;
         }
         i += 1;
     }
+    i
 }
 
 // Marks the numbers that stand behind a `q` inside t.
@@ -60,8 +62,8 @@ pub fn mark_text(t: &[u8], marks: &mut [u32])
     while i < n {
         let next = i + 1;
         if t[i] == b'q' {
-            mark_number(&t[next..], marks);
-            i = next;
+            let k = mark_number(&t[next..], marks);
+            i = next + k;
         } else {
             i = next;
         }

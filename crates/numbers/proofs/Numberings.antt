@@ -1,21 +1,26 @@
 -- The parts of the scratch put together: laws in the shape of the code.
 use mathlib.Core.Path.{_≡_, refl, sym, ap, subst, _∙_}
-use mathlib.Core.List.{List}
+use mathlib.Core.List.{List, []}
 use Prim.Native.Nat.{ℕ, _+_, _-_, _≤_, _<_}
 use native.Mathlib.Omega.{arith}
-use lib.ListN.{length, getD, take, drop, length-append, length-drop}
-use lib.Seq.{ext-getD, getD-take, getD-drop, length-take-le}
-use Rattle.text.specs.Texts.{Text, part}
+use lib.ListN.{length, getD, take, drop, length-append, length-drop, List·getD-append}
+use lib.Seq.{ext-getD, getD-take, getD-drop, length-take-le, getD-append-add}
+use Rattle.text.specs.Texts.{Text, part, indexOf}
 use Rattle.reading.specs.Holds.{Holds}
 use Rattle.reading.specs.Views.{View, texts}
 use Rattle.grants.specs.Scratch.{Numbered, sorted, textsOf}
 use Rattle.grants.specs.declared.scratch.Counts.{Counts}
-use Rattle.numbers.specs.Writes.{Kept, BothHeld, BothLent, Lent, oldView, newView, SideWritten, MethodsWritten}
-use Rattle.numbers.specs.Stemming.{lastStem, AllStems}
-use Rattle.numbers.specs.Numbering.{SidesWritten, TablesWritten, NumbersWritten, countsOf}
-use Rattle.numbers.specs.declared.pairs.Pair.{Pair}
+use Rattle.firsts.specs.Keeping.{Kept}
+use Rattle.firsts.specs.Shares.{linesIn, Firsts, Counted, FirstsWritten}
+use Rattle.firsts.specs.declared.pairs.Pair.{Pair}
+use Rattle.firsts.proofs.Keepings.{kept-then, part-at, part-length, part-kept, part-behind}
+use Rattle.numbers.specs.Writes.{BothHeld, BothLent, oldView, newView, SideWritten, MethodsWritten}
+use Rattle.numbers.specs.Stemming.{lastStem, AllStems, FirstsLent}
+use Rattle.numbers.specs.Gaps.{Alike, GapsLent}
+use Rattle.numbers.specs.Numbering.{FirstsStand, SidesLent, SidesWritten, TablesWritten, NumbersWritten, countsOf}
 use Rattle.numbers.specs.declared.stems.Stem.{Stem}
-use Rattle.numbers.proofs.Writings.{kept-then, part-at, part-length, part-kept, olds-still, news-still}
+use Rattle.numbers.proofs.Stemmings.{firsts-same, line-among}
+use Rattle.numbers.proofs.Writings.{olds-still, news-still}
 use Rattle.numbers.proofs.PairsPut.{both-still}
 
 -- a region of a region
@@ -30,7 +35,39 @@ part-part a b c w l h m =
     ∙ (let e : a + (b + i) ≡ a + b + i = omega arith in ap (λ (n : ℕ). getD w n 0) e)
     ∙ sym (part-at (a + b) (a + c) i w (omega arith)))
 
-module _ (old new : Text) (pair : Pair) (at : ℕ) (w₀ : List ℕ) (B : BothLent old new pair at 2048 w₀) where
+-- ---- the first lines
+module _ (old new : Text) (pair : Pair) (at : ℕ) (w₀ : List ℕ) (B : BothLent old new pair at 2048 w₀) (o n : ℕ) (o-is : o ≡ length (texts (oldView old w₀ pair)))
+    (n-is : n ≡ length (texts (newView new w₀ pair))) where
+  pub firsts-counted : Counted old new pair at (n + o) w₀
+  firsts-counted = record {
+    laid = record { olds = B .both .olds; news = B .both .news; clear = B .clear; room = B .room };
+    all = omega (arith, length-append (texts (newView new w₀ pair)) (texts (oldView old w₀ pair)));
+  }
+
+  pub firsts-stand : (w : List ℕ) → FirstsWritten (linesIn old new pair w₀) at (n + o) w₀ w → FirstsStand (oldView old w₀ pair) (newView new w₀ pair) at n w₀ w
+  firsts-stand w F = record {
+    kept = F .kept;
+    firsts = λ j l. F .firsts j (omega (arith, firsts-counted .all));
+    news = n-is;
+    few = omega (arith, B .both .news .proper .few-patterns);
+  }
+
+-- the numbers of n lines from line m on tell which of them have one text
+firsts-tell : (ts vs : List Text) (at m : ℕ) (w : List ℕ) → Firsts ts at (length ts) w → m + length vs ≤ length ts → length vs ≤ 128 → ((k : ℕ) → k < length vs → getD ts (m + k) [] ≡ getD vs k [])
+    → Alike vs (part (at + 1666 + m) (at + 1666 + m + 128) w)
+firsts-tell ts vs at m w F h few same-line j k l q =
+    rw (number j l, number k q, ← same-line j l, ← same-line k q)
+    (firsts-same ts (getD ts (m + j) []) (getD ts (m + k) []) (line-among ts (m + j) (omega arith)) (line-among ts (m + k) (omega arith)))
+  where
+    number : (i : ℕ) → i < length vs → getD (part (at + 1666 + m) (at + 1666 + m + 128) w) i 0 ≡ indexOf (getD ts (m + i) []) ts
+    number i b =
+        let e : at + 1666 + m + i ≡ at + 1666 + (m + i) = omega arith in
+        part-at (at + 1666 + m) (at + 1666 + m + 128) i w (omega arith) ∙ ap (λ (z : ℕ). getD w z 0) e ∙ F (m + i) (omega arith)
+
+module _ (old new : Text) (pair : Pair) (at n : ℕ) (w₀ : List ℕ) (X : SidesLent old new pair at n w₀) where
+  B : BothLent old new pair at 2048 w₀
+  B = X .lent
+
   -- the views that are held first
   abbrev ov : View
   ov = oldView old w₀ pair
@@ -46,9 +83,23 @@ module _ (old new : Text) (pair : Pair) (at : ℕ) (w₀ : List ℕ) (B : BothLe
     news-same : newView new w pair ≡ nv
     news-same = news-still new pair a e w₀ w K h (omega (arith, B .clear, B .room))
 
+  few-olds : length (texts ov) ≤ 128
+  few-olds = omega (arith, B .both .olds .proper .few-patterns)
+
+  few-news : length (texts nv) ≤ 128
+  few-news = omega (arith, B .both .news .proper .few-patterns)
+
   -- ---- the sides
-  pub old-lent : Lent old (pair .old) 0 at 512 w₀
-  old-lent = record { held = B .both .olds; first = omega arith; clear = B .clear; room = omega (arith, B .room) }
+  pub old-lent : GapsLent old (pair .old) 0 (at + 1666 + n) at 512 w₀
+  old-lent =
+      record {
+        lent = record { held = B .both .olds; first = omega arith; clear = B .clear; room = omega (arith, B .room) };
+        apart = omega arith;
+        room = omega (arith, B .room, X .few);
+        alike = rw (X .news)
+            (firsts-tell (textsOf ov nv) (texts ov) at (length (texts nv)) w₀ (X .firsts) (omega (arith, length-append (texts nv) (texts ov))) few-olds
+            (λ k l. getD-append-add (texts nv) (texts ov) k []));
+      }
 
   module _ (w₁ : List ℕ) (O : SideWritten (nv .roles) ov at w₀ w₁) where
     lent-1 : BothLent old new pair at 2048 w₁
@@ -57,8 +108,18 @@ module _ (old new : Text) (pair : Pair) (at : ℕ) (w₀ : List ℕ) (B : BothLe
     pub new-held : Holds new (pair .new) (part 1024 2048 w₁)
     new-held = lent-1 .both .news
 
-    pub new-lent : Lent new (pair .new) 1024 (at + 512) 512 w₁
-    new-lent = record { held = lent-1 .both .news; first = omega arith; clear = omega (arith, B .clear); room = omega (arith, lent-1 .room) }
+    pub new-lent : GapsLent new (pair .new) 1024 (at + 1666) (at + 512) 512 w₁
+    new-lent =
+        let e : at + 1666 + 0 ≡ at + 1666 = omega arith in
+        record {
+          lent = record { held = lent-1 .both .news; first = omega arith; clear = omega (arith, B .clear); room = omega (arith, lent-1 .room) };
+          apart = omega arith;
+          room = omega (arith, lent-1 .room);
+          alike = subst (λ (v : View). Alike (texts v) (part (at + 1666) (at + 1666 + 128) w₁)) (sym (news-same at (at + 512) w₁ (O .kept) (B .clear)))
+              (rw (part-behind at (at + 512) w₀ w₁ (O .kept) (at + 1666) (at + 1666 + 128) (omega arith) (omega arith) (omega (arith, B .room)), ← e)
+              (firsts-tell (textsOf ov nv) (texts nv) at 0 w₀ (X .firsts) (omega (arith, length-append (texts nv) (texts ov))) few-news
+              (λ k l. let z : 0 + k ≡ k = omega arith in rw z (List·getD-append (texts nv) (texts ov) [] k l))));
+        }
 
     pub sides-written : (w : List ℕ) → SideWritten (newView new w₁ pair .roles) (newView new w₁ pair) (at + 512) w₁ w → SidesWritten ov nv at w₀ w
     sides-written w N = record {
@@ -85,14 +146,19 @@ module _ (old new : Text) (pair : Pair) (at : ℕ) (w₀ : List ℕ) (B : BothLe
 
   -- ---- and the stems
   module _ (m : ℕ) (w₁ : List ℕ) (T : TablesWritten ov nv at w₀ w₁ m) where
-    pub stems-lent : BothLent old new pair at 2048 w₁
-    stems-lent = both-still old new pair at 2048 at (at + 1152) w₀ w₁ B (T .kept) (B .clear)
-
     olds-1 : oldView old w₁ pair ≡ ov
     olds-1 = olds-same at (at + 1152) w₁ (T .kept) (B .clear)
 
     news-1 : newView new w₁ pair ≡ nv
     news-1 = news-same at (at + 1152) w₁ (T .kept) (B .clear)
+
+    pub stems-lent : SidesLent old new pair at n w₁
+    stems-lent = record {
+      lent = both-still old new pair at 2048 at (at + 1152) w₀ w₁ B (T .kept) (B .clear);
+      firsts = rw (olds-1, news-1) (λ j l. T .kept .behind (at + 1666 + j) (omega arith) ∙ X .firsts j l);
+      news = X .news ∙ ap (λ (v : View). length (texts v)) (sym news-1);
+      few = X .few;
+    }
 
     module _ (w : List ℕ) (A′ : AllStems (texts (oldView old w₁ pair)) (texts (newView new w₁ pair)) at w₁ w) where
       A : AllStems (texts ov) (texts nv) at w₁ w
@@ -153,11 +219,41 @@ module _ (old new : Text) (pair : Pair) (at z : ℕ) (w : List ℕ) (B : BothLen
   pub lines-fit : n + o < 18446744073709551616
   lines-fit = omega (arith, B .both .olds .proper .few-patterns, B .both .news .proper .few-patterns)
 
-  pub counts-are : (m : ℕ) → record { old = o; new = n; methods = m } ≡ countsOf (oldView old w pair) (newView new w pair) m
-  counts-are m = rw (p, q)
+-- the same with the first lines
+module _ (old new : Text) (pair : Pair) (at n : ℕ) (w : List ℕ) (X : SidesLent old new pair at n w) (o : ℕ) (p : o ≡ length (texts (oldView old w pair))) where
+  pub lines-more : n + o < 18446744073709551616
+  lines-more = omega (arith, X .few, X .lent .both .olds .proper .few-patterns)
 
-  pub lines-both : n + o ≡ length (textsOf (oldView old w pair) (newView new w pair))
-  lines-both = omega (arith, p, q, length-append (texts (newView new w pair)) (texts (oldView old w pair)))
+  pub counts-are : (m : ℕ) → record { old = o; new = n; methods = m } ≡ countsOf (oldView old w pair) (newView new w pair) m
+  counts-are m = rw (p, X .news)
+
+  lines-both : n + o ≡ length (textsOf (oldView old w pair) (newView new w pair))
+  lines-both = omega (arith, p, X .news, length-append (texts (newView new w pair)) (texts (oldView old w pair)))
+
+  pub firsts-lent : FirstsLent old new pair at (n + o) w
+  firsts-lent = record { lent = X .lent; all = lines-both; firsts = λ j l. X .firsts j (omega (arith, lines-both)) }
+
+-- ---- one after the other
+module _ (old new : Text) (pair : Pair) (at : ℕ) (w₀ : List ℕ) (B : BothLent old new pair at 2048 w₀) (n : ℕ) (w₁ : List ℕ) (F : FirstsStand (oldView old w₀ pair) (newView new w₀ pair) at n w₀ w₁) where
+  olds-first : oldView old w₁ pair ≡ oldView old w₀ pair
+  olds-first = olds-still old pair at (at + 2048) w₀ w₁ (F .kept) (B .clear) (omega (arith, B .clear, B .room))
+
+  news-first : newView new w₁ pair ≡ newView new w₀ pair
+  news-first = news-still new pair at (at + 2048) w₀ w₁ (F .kept) (B .clear) (omega (arith, B .clear, B .room))
+
+  pub tables-lent : SidesLent old new pair at n w₁
+  tables-lent = record {
+    lent = both-still old new pair at 2048 at (at + 2048) w₀ w₁ B (F .kept) (B .clear);
+    firsts = rw (olds-first, news-first) (F .firsts);
+    news = F .news ∙ ap (λ (v : View). length (texts v)) (sym news-first);
+    few = F .few;
+  }
+
+  pub all-written : (w : List ℕ) (c : Counts) → NumbersWritten (oldView old w₁ pair) (newView new w₁ pair) at w₁ w c → NumbersWritten (oldView old w₀ pair) (newView new w₀ pair) at w₀ w c
+  all-written w c N = record {
+    kept = kept-then at (at + 2048) at (at + 2048) at (at + 2048) w₀ w₁ w (F .kept) (N .kept) (omega arith) (omega arith) (omega arith) (omega arith);
+    numbers = rw (olds-first, news-first) at (N .numbers);
+  }
 
 -- ---- the whole scratch
 pub all-lent : (old new : Text) (pair : Pair) (w : List ℕ) → 4096 ≤ length w → BothHeld old new w pair → BothLent old new pair 2048 2048 w

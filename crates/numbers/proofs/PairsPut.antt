@@ -9,9 +9,11 @@ use Rattle.text.specs.Texts.{Text, indexOf, part, Once}
 use Rattle.reading.specs.Views.{View}
 use Rattle.text.proofs.Indices.{index-bound}
 use Rattle.grants.specs.Sides.{PairedUp}
-use Rattle.numbers.specs.Writes.{Kept, BothLent, oldMethods, newMethods, named, PairsWritten, MethodsWritten, putPair}
-use Rattle.numbers.specs.declared.pairs.Pair.{Pair}
-use Rattle.numbers.proofs.Writings.{kept-all, kept-set, kept-then, held-still, olds-still, news-still, part-length}
+use Rattle.firsts.specs.Keeping.{Kept}
+use Rattle.numbers.specs.Writes.{BothLent, oldMethods, newMethods, named, PairsWritten, MethodsWritten, putPair}
+use Rattle.firsts.specs.declared.pairs.Pair.{Pair}
+use Rattle.firsts.proofs.Keepings.{kept-all, kept-set, kept-then, part-length}
+use Rattle.numbers.proofs.Writings.{held-still, olds-still, news-still}
 use Rattle.numbers.proofs.Pairings.{withPair, PairedNew, PairedOld, new-start, new-more, new-end, old-start, old-known, old-more, old-end, old-count, all-paired}
 
 -- ---- one pair

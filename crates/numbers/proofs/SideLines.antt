@@ -13,7 +13,7 @@ use lib.Pow.{pow-lt}
 use lib.Dec.{eqb, ltb}
 use lib.Bits.{bitOr}
 use borrow.Author.Tests.{eqb-true, lt-ltb, le-ltb, eq-eqb, ne-eqb}
-use Rattle.text.specs.Texts.{Text, same, indexOf, part}
+use Rattle.text.specs.Texts.{Text, indexOf, part}
 use Rattle.entries.specs.Sets.{digit}
 use Rattle.reading.specs.Holds.{Holds}
 use Rattle.reading.specs.Views.{View, texts, coverAt, accessAt, viewAt}
@@ -22,8 +22,11 @@ use Rattle.entries.specs.declared.tables.Tally.{Tally}
 use Rattle.entries.proofs.Digits.{set-same, set-none, set-with}
 use Rattle.grants.specs.Sides.{LineIn, renumbered, accessMark, accessRoles, gapAt}
 use Rattle.grants.proofs.Stores.{Filled, fill-start, fill-more, fill-all}
-use Rattle.numbers.specs.Writes.{Kept, LinesWritten, Lent, Mapped, viewFrom, markAt, renumberedBy, rolesBy, Plain, SideWritten}
-use Rattle.numbers.proofs.Writings.{lent-still, view-still, kept-then, part-at, part-length}
+use Rattle.firsts.specs.Keeping.{Kept}
+use Rattle.firsts.proofs.Keepings.{kept-then, part-at, part-length, part-behind}
+use Rattle.numbers.specs.Writes.{LinesWritten, Lent, Mapped, viewFrom, markAt, renumberedBy, rolesBy, Plain, SideWritten}
+use Rattle.numbers.specs.Gaps.{Gapable, GapsLent}
+use Rattle.numbers.proofs.Writings.{Writing, line-there, lent-still, view-still}
 use Rattle.text.proofs.Indices.{index-bound}
 
 -- ---- the numbers of a view
@@ -166,33 +169,75 @@ pub record Gapping (v : View) (k n j : ℕ) : Type 0 where
   pub begun : k + 1 ≤ j
   pub ahead : j ≤ n
 
-module _ (v : View) (k n : ℕ) (n-is : n ≡ length (texts v)) where
+pub record GappingTo (s : Text) (w fs : List ℕ) (k f n j : ℕ) : Type 0 where
+  pub own : f ≡ getD fs k 0
+  pub gapping : (t : Tally) → Gapable s t w fs k → n ≡ length (texts (viewAt s t w)) → Gapping (viewAt s t w) k n j
+
+module _ (s : Text) (w fs : List ℕ) (k n : ℕ) where
   -- those behind line k
-  pub gap-start : k < length (texts v) → Gapping v k n (k + 1)
+  pub gap-start : (f : ℕ) → f ≡ getD fs k 0 → GappingTo s w fs k f n (k + 1)
   unfolding gapAt
-  gap-start h = record { due = refl; begun = omega arith; ahead = omega arith }
+  gap-start f e = record { own = e; gapping = λ t G e. record { due = refl; begun = omega arith; ahead = omega (arith, G .inside) } }
 
-  module _ (text : Text) (text-is : text ≡ getD (texts v) k []) (j : ℕ) (G : Gapping v k n j) where
-    module _ (u : Text) (r : Bool) (h : j < n) (u-is : u ≡ getD (texts v) j []) (r-is : r ≡ same u text) where
-      -- line j is looked at
-      here : indexOf (getD (texts v) k []) (drop j (texts v)) ≡ cond r 0 (suc (indexOf (getD (texts v) k []) (drop (suc j) (texts v))))
-      unfolding indexOf
-      here = rw (drop-cons (texts v) j [] (omega arith), ← u-is, ← text-is, ← r-is)
-
-      -- it has the text
-      pub gap-found : r ≡ true → j - (k + 1) ≡ gapAt v k
-      gap-found e = let d : indexOf (getD (texts v) k []) (drop j (texts v)) ≡ 0 = here ∙ rw e in omega (arith, G .due)
-
-      -- it hasn't
-      pub gap-further : r ≡ false → Gapping v k n (j + 1)
-      gap-further e =
-          let d : indexOf (getD (texts v) k []) (drop j (texts v)) ≡ suc (indexOf (getD (texts v) k []) (drop (suc j) (texts v))) = here ∙ rw e in
-          record { due = rw (add-one j) (omega (arith, G .due)); begun = omega (arith, G .begun); ahead = omega arith }
-
-    -- none is left
-    pub gap-none : n ≤ j → n - (k + 1) ≡ gapAt v k
+  module _ (j : ℕ) where
+    -- line j is looked at
+    here : (t : Tally) → Gapable s t w fs k → n ≡ length (texts (viewAt s t w)) → j < n → indexOf (getD (texts (viewAt s t w)) k []) (drop j (texts (viewAt s t w)))
+        ≡ cond (eqb (getD fs j 0) (getD fs k 0)) 0 (suc (indexOf (getD (texts (viewAt s t w)) k []) (drop (suc j) (texts (viewAt s t w)))))
     unfolding indexOf
-    gap-none h = let d = rw (drop-of-length-le (texts v) {i = j} (omega arith)) at (G .due) in omega (arith, G .ahead)
+    here t G e h = rw (drop-cons (texts (viewAt s t w)) j [] (omega arith), G .alike j k (omega arith) (G .inside))
+
+    -- it hasn't the text
+    pub gap-further : (f : ℕ) → GappingTo s w fs k f n j → j < n → (getD fs j 0 ≡ f → ⊥) → GappingTo s w fs k f n (j + 1)
+    gap-further f D h e = record {
+      own = D .own;
+      gapping = λ t G q.
+          let vs : List Text = texts (viewAt s t w) in
+          let D′ = D .gapping t G q in
+          let d : indexOf (getD vs k []) (drop j vs) ≡ suc (indexOf (getD vs k []) (drop (suc j) vs)) = here t G q h ∙ rw (ne-eqb (getD fs j 0) (getD fs k 0) (λ z. e (z ∙ sym (D .own)))) in
+          record { due = rw (add-one j) (omega (arith, D′ .due)); begun = omega (arith, D′ .begun); ahead = omega arith };
+    }
+
+  module _ (t : Tally) (G : Gapable s t w fs k) where
+    abbrev vs : List Text
+    vs = texts (viewAt s t w)
+
+    pub gap-there : k < length fs
+    gap-there = omega (arith, G .inside, G .room)
+
+    module _ (n-is : n ≡ length vs) where
+      pub gap-fits : k + 1 ≤ n
+      gap-fits = omega (arith, G .inside)
+
+      module _ (j : ℕ) where
+        pub gap-next : j < n → j < length fs
+        gap-next h = omega (arith, G .room)
+
+        module _ (f : ℕ) (D : GappingTo s w fs k f n j) where
+          pub gap-begun : k + 1 ≤ j
+          gap-begun = D .gapping t G n-is .begun
+
+          -- it has
+          pub gap-found : j < n → getD fs j 0 ≡ f → j - (k + 1) ≡ gapAt (viewAt s t w) k
+          gap-found h e =
+              let d : indexOf (getD vs k []) (drop j vs) ≡ 0 = here j t G n-is h ∙ rw (eq-eqb (getD fs j 0) (getD fs k 0) (e ∙ D .own)) in
+              omega (arith, D .gapping t G n-is .due)
+
+          -- none is left
+          pub gap-none : n ≤ j → n - (k + 1) ≡ gapAt (viewAt s t w) k
+          unfolding indexOf
+          gap-none h = let D′ = D .gapping t G n-is in let d = rw (drop-of-length-le vs {i = j} (omega arith)) at (D′ .due) in omega (arith, D′ .ahead)
+
+-- the numbers of the first lines stay while the gaps are written
+pub gap-lent : (s : Text) (t : Tally) (from f at n k : ℕ) (w₀ w : List ℕ) → GapsLent s t from f at 128 w₀ → Writing s t from at n k gapAt w₀ w → k < n → Gapable s t (part from (from + 1024) w) (part f (f + 128) w) k
+gap-lent s t from f at n k w₀ w G W h =
+    let p : part f (f + 128) w ≡ part f (f + 128) w₀ = part-behind at (at + k) w₀ w (W .wrote .kept) f (f + 128) (omega (arith, G .apart, W .few)) (omega arith) (G .room) in
+    let z : length (part f (f + 128) w₀) ≡ f + 128 - f = part-length f (f + 128) w₀ (omega arith) (G .room) in
+    record {
+      holds = W .lent .held;
+      inside = line-there s t from at n gapAt k w₀ w W h;
+      room = rw p (omega (arith, W .lent .held .proper .few-patterns));
+      alike = rw (W .same, p) (G .alike);
+    }
 
 -- ---- the parts put together
 module _ (s : Text) (t : Tally) (from at : ℕ) (w₀ : List ℕ) (L : Lent s t from at 512 w₀) where
@@ -230,8 +275,17 @@ module _ (s : Text) (t : Tally) (from at : ℕ) (w₀ : List ℕ) (L : Lent s t 
       kept-2 : Kept at (at + 256) w₀ w₂
       kept-2 = kept-then at (at + 256) at (at + n) (at + 128) (at + 128 + n) w₀ w₁ w₂ (C .kept) (M .kept) (omega arith) (omega (arith, few)) (omega arith) (omega (arith, few))
 
-      pub side-fourth : Lent s t from (at + 384) 128 w₂
+      side-fourth : Lent s t from (at + 384) 128 w₂
       side-fourth = sub 384 w₂ (lent-still s t from at 512 at (at + 256) w₀ w₂ L kept-2 (L .clear)) (omega arith)
+
+      -- with the numbers of the first lines behind all
+      pub side-gaps : (f : ℕ) → GapsLent s t from f at 512 w₀ → GapsLent s t from f (at + 384) 128 w₂
+      side-gaps f G = record {
+        lent = side-fourth;
+        apart = omega (arith, G .apart);
+        room = omega (arith, G .room, kept-2 .size);
+        alike = rw (view-still s t from at 512 at (at + 256) w₀ w₂ L kept-2 (L .clear), part-behind at (at + 256) w₀ w₂ kept-2 f (f + 128) (omega (arith, G .apart)) (omega arith) (G .room)) (G .alike);
+      }
 
       pub side-plain : (w₃ : List ℕ) → LinesWritten (viewFrom s t from w₂) gapAt (at + 384) w₂ w₃ → Plain l at w₀ w₃
       side-plain w₃ G′ = let G = of-first gapAt at (at + 256) (at + 384) w₂ w₃ kept-2 (L .clear) G′ in record {

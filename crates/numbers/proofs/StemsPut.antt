@@ -1,20 +1,22 @@
 -- The stems in the work table: laws in the shape of the code.
-use mathlib.Core.Path.{_≡_, sym, ap, ap₂, subst, _∙_}
+use mathlib.Core.Path.{_≡_, refl, sym, ap, ap₂, subst, _∙_}
 use mathlib.Core.List.{List, [], _++_}
 use Prim.Native.Nat.{ℕ, _+_, _-_, _≤_, _<_}
 use native.Mathlib.Omega.{arith}
 use native.Mathlib.Decide.{decLt}
 use lib.ListN.{length, getD, set, length-append, length-set}
 use lib.Seq.{getD-set-same, getD-set-other}
-use Rattle.text.specs.Texts.{Text, part}
+use Rattle.text.specs.Texts.{Text, part, indexOf}
 use Rattle.names.specs.Patterns.{default}
 use Rattle.reading.specs.Views.{texts}
 use Rattle.grants.specs.Scratch.{stemPlace}
-use Rattle.numbers.specs.Writes.{Kept, Both, BothLent, oldView, newView}
-use Rattle.numbers.specs.Stemming.{putStem, stemIn, lastStem, StemIs, StemOf, StemsWritten, AllStems}
-use Rattle.numbers.specs.declared.pairs.Pair.{Pair}
+use Rattle.firsts.specs.Keeping.{Kept}
+use Rattle.firsts.specs.declared.pairs.Pair.{Pair}
+use Rattle.firsts.proofs.Keepings.{kept-all, kept-set, kept-then, part-at, part-length}
+use Rattle.numbers.specs.Writes.{Both, BothLent, oldView, newView}
+use Rattle.numbers.specs.Stemming.{putStem, stemIn, lastStem, Stemmable, StemIs, StemOf, StemsWritten, AllStems, FirstsLent, StemsLent}
 use Rattle.numbers.specs.declared.stems.Stem.{Stem}
-use Rattle.numbers.proofs.Writings.{kept-all, kept-set, olds-still, news-still}
+use Rattle.numbers.proofs.Writings.{olds-still, news-still}
 use Rattle.numbers.proofs.PairsPut.{both-still}
 
 -- ---- one stem
@@ -36,18 +38,22 @@ module _ (at j : ℕ) (x : Stem) (w : List ℕ) (few : j ≤ 256) where
       (omega arith) (omega arith)
 
   -- another stem stays
-  pub put-other : (i : ℕ) → i < j → stemIn at i (putStem at j x w) ≡ stemIn at i w
-  put-other i h =
+  pub put-other : (i : ℕ) → (i ≡ j → ⊥) → i ≤ 256 → stemIn at i (putStem at j x w) ≡ stemIn at i w
+  put-other i h l =
       stem-eq (stemIn at i w) _ _ _
-      (other (at + 1666 + i) (λ e. omega arith) (λ e. omega arith) (λ e. omega arith))
-      (other (at + 1152 + i) (λ e. omega arith) (λ e. omega arith) (λ e. omega arith))
-      (other (at + 1409 + i) (λ e. omega arith) (λ e. omega arith) (λ e. omega arith))
+      (other (at + 1666 + i) (λ e. omega arith) (λ e. omega arith) (λ e. h (omega arith)))
+      (other (at + 1152 + i) (λ e. h (omega arith)) (λ e. omega arith) (λ e. omega arith))
+      (other (at + 1409 + i) (λ e. omega arith) (λ e. h (omega arith)) (λ e. omega arith))
     where
       other : (p : ℕ) → (p ≡ at + 1152 + j → ⊥) → (p ≡ at + 1409 + j → ⊥) → (p ≡ at + 1666 + j → ⊥) → getD (putStem at j x w) p 0 ≡ getD w p 0
       other p a b c =
           getD-set-other w₂ (at + 1666 + j) p (x .sort) 0 c
           ∙ getD-set-other w₁ (at + 1409 + j) p (x .in_new) 0 b
           ∙ getD-set-other w (at + 1152 + j) p (x .in_old) 0 a
+
+  -- so does the number of another first line
+  pub put-first : (i : ℕ) → (i ≡ j → ⊥) → i ≤ 256 → getD (putStem at j x w) (at + 1666 + i) 0 ≡ getD w (at + 1666 + i) 0
+  put-first i h l = ap (λ (y : Stem). y .sort) (put-other i h l)
 
   -- it stands there
   pub put-here : at + 2048 ≤ length w → stemIn at j (putStem at j x w) ≡ x
@@ -77,44 +83,61 @@ module _ (old new : Text) (pair : Pair) (at : ℕ) where
     news-same : nl w ≡ nl w₀
     news-same = ap texts (news-still new pair (at + 1152) (at + 2048) w₀ w K (omega (arith, B .clear)) (omega (arith, B .clear, B .room, K .size)))
 
-  -- j of n are written
-  pub record StemmingTo (n j : ℕ) (w₀ w : List ℕ) : Type 0 where
-    pub all : n ≡ length (nl w₀ ++ ol w₀)
+  -- j of n are written; from there on stand the numbers of the first lines
+  pub record StemmingTo (n : ℕ) (last : Stem) (j : ℕ) (w₀ w : List ℕ) : Type 0 where
     pub lent : BothLent old new pair at 2048 w
     pub written : StemsWritten (ol w₀) (nl w₀) at j w₀ w
+    pub firsts : (i : ℕ) → j ≤ i → i < n → getD w (at + 1666 + i) 0 ≡ indexOf (getD (nl w₀ ++ ol w₀) i []) (nl w₀ ++ ol w₀)
     pub so-far : j ≤ n
     pub few : n ≤ 256
+    pub all : n ≡ length (nl w₀ ++ ol w₀)
+    pub last-is : last ≡ lastStem (ol w₀) (nl w₀)
 
-  module _ (n : ℕ) where
+  module _ (n : ℕ) (last : Stem) where
     -- none yet
-    pub stems-start : (w : List ℕ) → BothLent old new pair at 2048 w → n ≡ length (nl w ++ ol w) → StemmingTo n 0 w w
-    stems-start w B e = record {
-      all = e;
-      lent = B;
-      written = record { kept = kept-all (at + 1152) (at + 2048) w; stems = λ j h. absurd (omega arith) };
+    pub stems-start : (w : List ℕ) → StemsLent old new pair at n last w → StemmingTo n last 0 w w
+    stems-start w L = record {
+      lent = L .lent;
+      written = record { kept = kept-all (at + 1152) (at + 2048) w; stems = λ j h. absurd (omega arith); behind = refl };
+      firsts = λ i h l. L .firsts i l;
       so-far = omega arith;
-      few = omega (arith, texts-few w B);
+      few = omega (arith, texts-few w (L .lent), L .all);
+      all = L .all;
+      last-is = L .last-is;
     }
 
-    module _ (j : ℕ) (w₀ w : List ℕ) (S : StemmingTo n j w₀ w) where
+    module _ (j : ℕ) (w₀ w : List ℕ) (S : StemmingTo n last j w₀ w) where
       abbrev os : List Text
       os = ol w₀
 
       abbrev ns : List Text
       ns = nl w₀
 
-      -- line j is one of both
-      pub stem-there : j < n → j < length (nl w ++ ol w)
-      stem-there h = rw (olds-same w₀ w (S .lent) (S .written .kept), news-same w₀ w (S .lent) (S .written .kept)) (omega (arith, S .all))
+      -- the next line
+      pub stems-next : j < n → Stemmable old new (part 0 1024 w) (part 1024 2048 w) pair (part (at + 1666) (at + 1666 + 257) w) last j
+      stems-next h = record {
+        both = S .lent .both;
+        inside = rw (olds-same w₀ w (S .lent) (S .written .kept), news-same w₀ w (S .lent) (S .written .kept)) (omega (arith, S .all));
+        size = part-length (at + 1666) (at + 1666 + 257) w (omega arith) (omega (arith, S .lent .room)) ∙ omega arith;
+        few = omega (arith, S .few);
+        firsts = rw (olds-same w₀ w (S .lent) (S .written .kept), news-same w₀ w (S .lent) (S .written .kept)) (λ i l m. part-at (at + 1666) (at + 1666 + 257) i w (omega (arith, S .few, S .all)) ∙ S .firsts i l (omega (arith, S .all)));
+        last-is = rw (olds-same w₀ w (S .lent) (S .written .kept), news-same w₀ w (S .lent) (S .written .kept)) (S .last-is);
+      }
 
       -- one more
-      pub stems-more : (x : Stem) (v : List ℕ) → j < n → StemOf (ol w) (nl w) j x → v ≡ putStem at j x w → StemmingTo n (j + 1) w₀ v
-      stems-more x v h X′ p = subst (StemmingTo n (j + 1) w₀) (sym p) (record {
-        all = S .all;
+      pub stems-more : (x : Stem) (v : List ℕ) → j < n → StemOf (ol w) (nl w) j x → v ≡ putStem at j x w → StemmingTo n last (j + 1) w₀ v
+      stems-more x v h X′ p = subst (StemmingTo n last (j + 1) w₀) (sym p) (record {
         lent = both-still old new pair at 2048 (at + 1152) (at + 2048) w (putStem at j x w) (S .lent) (put-kept at j x w small w (kept-all (at + 1152) (at + 2048) w)) (omega (arith, S .lent .clear));
-        written = record { kept = put-kept at j x w small w₀ (S .written .kept); stems = λ i l. go i l (decLt i j) };
+        written = record {
+          kept = put-kept at j x w small w₀ (S .written .kept);
+          stems = λ i l. go i l (decLt i j);
+          behind = put-other at j x w small (length (ns ++ os)) (λ e. omega (arith, S .all)) (omega (arith, S .few, S .all)) ∙ S .written .behind;
+        };
+        firsts = λ i l m. put-first at j x w small i (λ e. omega arith) (omega (arith, S .few)) ∙ S .firsts i (omega arith) m;
         so-far = omega arith;
         few = S .few;
+        all = S .all;
+        last-is = S .last-is;
       })
         where
           small : j ≤ 256
@@ -124,7 +147,7 @@ module _ (old new : Text) (pair : Pair) (at : ℕ) where
           X = rw (olds-same w₀ w (S .lent) (S .written .kept), news-same w₀ w (S .lent) (S .written .kept)) at X′
 
           go : (i : ℕ) → i < j + 1 → Dec (i < j) → StemIs os ns (getD (ns ++ os) i []) i (stemIn at i (putStem at j x w))
-          go i l (yes q) = subst (StemIs os ns (getD (ns ++ os) i []) i) (sym (put-other at j x w small i q)) (S .written .stems i q)
+          go i l (yes q) = subst (StemIs os ns (getD (ns ++ os) i []) i) (sym (put-other at j x w small i (λ e. omega arith) (omega (arith, S .few)))) (S .written .stems i q)
           go i l (no q) =
               let e : i ≡ j = omega arith in
               rw e (subst (StemIs os ns (getD (ns ++ os) j []) j) (sym (put-here at j x w small (S .lent .room))) X)
@@ -132,28 +155,44 @@ module _ (old new : Text) (pair : Pair) (at : ℕ) where
       pub stems-all : n ≤ j → StemsWritten os ns at n w₀ w
       stems-all h = let e : j ≡ n = omega (arith, S .so-far) in rw e at (S .written)
 
-    -- ---- and the last
-    module _ (w₀ : List ℕ) (B : BothLent old new pair at 2048 w₀) (n-is : n ≡ length (nl w₀ ++ ol w₀)) where
-      pub lines-few : n ≤ 256
-      lines-few = omega (arith, texts-few w₀ B)
+  -- ---- the last stem, and then the others
+  module _ (n : ℕ) (w₀ : List ℕ) (L : FirstsLent old new pair at n w₀) where
+    pub lines-few : n ≤ 256
+    lines-few = omega (arith, texts-few w₀ (L .lent), L .all)
 
-      module _ (w : List ℕ) (S : StemsWritten (ol w₀) (nl w₀) at n w₀ w) where
-        last-lent : BothLent old new pair at 2048 w
-        last-lent = both-still old new pair at 2048 (at + 1152) (at + 2048) w₀ w B (S .kept) (omega (arith, B .clear))
+    pub last-both : Both old new (part 0 1024 w₀) (part 1024 2048 w₀) pair
+    last-both = L .lent .both
 
-        pub last-both : Both old new (part 0 1024 w) (part 1024 2048 w) pair
-        last-both = last-lent .both
+    module _ (x : Stem) (x-is : x ≡ lastStem (ol w₀) (nl w₀)) (w₁ : List ℕ) (p : w₁ ≡ putStem at n x w₀) where
+      kept-1 : Kept (at + 1152) (at + 2048) w₀ w₁
+      kept-1 = subst (Kept (at + 1152) (at + 2048) w₀) (sym p) (put-kept at n x w₀ lines-few w₀ (kept-all (at + 1152) (at + 2048) w₀))
 
-        pub last-room : at + 2048 ≤ length w
-        last-room = last-lent .room
+      lent-1 : BothLent old new pair at 2048 w₁
+      lent-1 = both-still old new pair at 2048 (at + 1152) (at + 2048) w₀ w₁ (L .lent) kept-1 (omega (arith, L .lent .clear))
 
-        pub stems-last : (x : Stem) (v : List ℕ) → x ≡ lastStem (ol w) (nl w) → v ≡ putStem at n x w → AllStems (ol w₀) (nl w₀) at w₀ v
-        stems-last x v e p = subst (AllStems (ol w₀) (nl w₀) at w₀) (sym p) (record {
-          kept = put-kept at n x w lines-few w₀ (S .kept);
-          stems = λ i l. let q : i < n = omega arith in subst (StemIs (ol w₀) (nl w₀) (getD (nl w₀ ++ ol w₀) i []) i) (sym (put-other at n x w lines-few i q)) (S .stems i q);
-          last = ap (λ (k : ℕ). stemIn at k (putStem at n x w)) (sym n-is) ∙ put-here at n x w lines-few (last-lent .room) ∙ e
-              ∙ ap₂ lastStem (olds-same w₀ w last-lent (S .kept)) (news-same w₀ w last-lent (S .kept));
-        })
+      olds-1 : ol w₁ ≡ ol w₀
+      olds-1 = olds-same w₀ w₁ lent-1 kept-1
+
+      news-1 : nl w₁ ≡ nl w₀
+      news-1 = news-same w₀ w₁ lent-1 kept-1
+
+      first-at : (i : ℕ) → i < n → getD w₁ (at + 1666 + i) 0 ≡ indexOf (getD (nl w₀ ++ ol w₀) i []) (nl w₀ ++ ol w₀)
+      first-at i l = ap (λ (w : List ℕ). getD w (at + 1666 + i) 0) p ∙ put-first at n x w₀ lines-few i (λ e. omega arith) (omega (arith, lines-few)) ∙ L .firsts i l
+
+      pub stems-ready : StemsLent old new pair at n x w₁
+      stems-ready = record {
+        lent = lent-1;
+        all = rw (olds-1, news-1) (L .all);
+        firsts = rw (olds-1, news-1) first-at;
+        last-is = rw (olds-1, news-1) x-is;
+      }
+
+      pub stems-last : (w : List ℕ) → StemsWritten (ol w₁) (nl w₁) at n w₁ w → AllStems (ol w₀) (nl w₀) at w₀ w
+      stems-last w S′ = let S : StemsWritten (ol w₀) (nl w₀) at n w₁ w = rw (olds-1, news-1) at S′ in record {
+        kept = kept-then (at + 1152) (at + 2048) (at + 1152) (at + 2048) (at + 1152) (at + 2048) w₀ w₁ w kept-1 (S .kept) (omega arith) (omega arith) (omega arith) (omega arith);
+        stems = λ i l. S .stems i (omega (arith, L .all));
+        last = S .behind ∙ ap₂ (λ (k : ℕ) (v : List ℕ). stemIn at k v) (sym (L .all)) p ∙ put-here at n x w₀ lines-few (L .lent .room) ∙ x-is;
+      }
 
 pub last-is : (os ns : List Text) (a b : ℕ) → a ≡ stemPlace os default → b ≡ stemPlace ns default → record { sort = 1; in_old = a; in_new = b } ≡ lastStem os ns
 unfolding lastStem

@@ -12,13 +12,8 @@ use Rattle.reading.specs.Views.{View, texts, coverAt, accessAt, viewAt}
 use Rattle.entries.specs.declared.tables.Tally.{Tally}
 use Rattle.trials.specs.Trials.{joined}
 use Rattle.grants.specs.Sides.{SideOf, accessMark, accessRoles, gapAt, PairsOf, PairedUp}
-use Rattle.numbers.specs.declared.pairs.Pair.{Pair}
-
--- w is w₀ but for its numbers from place a up to place e
-pub record Kept (a e : ℕ) (w₀ w : List ℕ) : Type 0 where
-  pub size : length w ≡ length w₀
-  pub before : (i : ℕ) → i < a → getD w i 0 ≡ getD w₀ i 0
-  pub behind : (i : ℕ) → e ≤ i → getD w i 0 ≡ getD w₀ i 0
+use Rattle.firsts.specs.Keeping.{Kept}
+use Rattle.firsts.specs.declared.pairs.Pair.{Pair}
 
 -- w is w₀ with the n numbers f 0, f 1, .. from place at on
 pub record Wrote (at n : ℕ) (f : ℕ → ℕ) (w₀ w : List ℕ) : Type 0 where

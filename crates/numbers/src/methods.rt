@@ -5,7 +5,7 @@ ghost use lib.ListN.{length};
 ghost use Rattle.text.specs.Texts.{part};
 ghost use Rattle.grants.specs.Sides.{PairedUp};
 ghost use Rattle.numbers.specs.Writes.{BothLent, PairsWritten, MethodsWritten, oldMethods, newMethods, named, putPair};
-use crate::pairs::Pair;
+use firsts::pairs::Pair;
 use reading::held;
 
 // One pair, behind n others.

@@ -8,6 +8,7 @@ ghost use Rattle.text.specs.Texts.{part};
 ghost use Rattle.reading.specs.Holds.{Holds};
 ghost use Rattle.reading.specs.Views.{texts, coverAt, viewAt};
 ghost use Rattle.grants.specs.Sides.{accessMark, accessRoles, gapAt};
+ghost use Rattle.numbers.specs.Gaps.{Gapable, GapsLent};
 ghost use Rattle.numbers.specs.Writes.{LinesWritten, Lent, Mapped, viewFrom, markAt, renumberedBy, rolesBy, Plain, SideWritten};
 use entries::tables;
 use entries::tables::Tally;
@@ -144,17 +145,17 @@ pub fn fill_roles(s: &[u8], w: &mut [u32], t: Tally, from: usize, map: &[u32], n
     }
 }
 
-// How many lines stand between line k and the next with the same text, or follow it where there is none.
-pub fn gap(s: &[u8], w: &[u32], t: Tally, k: usize) -> usize
-    requires { ⌜ Holds (now s) t (now w) × (k < length (texts (viewAt (now s) t (now w)))) ⌝ }
+// How many lines stand between line k and the next with the same text, or follow it where there is none. The numbers of the first lines tell which have one text.
+pub fn gap(s: &[u8], w: &[u32], t: Tally, firsts: &[u32], k: usize) -> usize
+    requires { ⌜ Gapable (now s) t (now w) (now firsts) k ⌝ }
     ensures { λ r. ⌜ r ≡ gapAt (viewAt (now (s .entry)) t (now (w .entry))) k ⌝ }
 {
-    let text = held::pattern(s, w, t, k);
+    let f = firsts[k];
     let n = held::pattern_count(s, w, t);
     let from = k + 1;
     let mut j = from;
     while j < n {
-        if held::is_pattern(s, w, t, j, text) {
+        if firsts[j] == f {
             return j - from;
         }
         j += 1;
@@ -162,33 +163,42 @@ pub fn gap(s: &[u8], w: &[u32], t: Tally, k: usize) -> usize
     n - from
 }
 
-// The gaps.
-pub fn fill_gaps(s: &[u8], w: &mut [u32], t: Tally, from: usize, at: usize)
-    requires { ⌜ Lent (now s) t from at 128 (now w) ⌝ }
+// The gaps; the numbers of the first lines stand from f on.
+pub fn fill_gaps(s: &[u8], w: &mut [u32], t: Tally, from: usize, f: usize, at: usize)
+    requires { ⌜ GapsLent (now s) t from f at 128 (now w) ⌝ }
     ensures { λ _. ⌜ LinesWritten (viewFrom (now (s .entry)) t from (now (w .entry))) gapAt at (now (w .entry)) (now (w .exit)) ⌝ }
 {
     let n = held::pattern_count(s, &w[from..from + 1024], t);
     let mut k = 0;
     while k < n {
-        let v = gap(s, &w[from..from + 1024], t, k);
+        let v = gap(s, &w[from..from + 1024], t, &w[f..f + 128], k);
         w[at + k] = v as u32;
         k += 1;
     }
 }
 
 // All of the table but the roles.
-pub fn fill_plain(s: &[u8], w: &mut [u32], t: Tally, from: usize, at: usize)
-    requires { ⌜ Lent (now s) t from at 512 (now w) ⌝ }
+pub fn fill_plain(s: &[u8], w: &mut [u32], t: Tally, from: usize, f: usize, at: usize)
+    requires { ⌜ GapsLent (now s) t from f at 512 (now w) ⌝ }
     ensures { λ _. ⌜ Plain (viewFrom (now (s .entry)) t from (now (w .entry))) at (now (w .entry)) (now (w .exit)) ⌝ }
 {
     fill_covers(s, w, t, from, at);
     fill_marks(s, w, t, from, at + 128);
-    fill_gaps(s, w, t, from, at + 384);
+    fill_gaps(s, w, t, from, f, at + 384);
 }
 
 // The whole table of the view.
-pub fn fill_side(new: &[u8], tn: Tally, s: &[u8], w: &mut [u32], t: Tally, from: usize, at: usize)
-    requires { ⌜ Holds (now new) tn (part 1024 2048 (now w)) × Lent (now s) t from at 512 (now w) ⌝ }
+pub fn fill_side(
+    new: &[u8],
+    tn: Tally,
+    s: &[u8],
+    w: &mut [u32],
+    t: Tally,
+    from: usize,
+    f: usize,
+    at: usize,
+)
+    requires { ⌜ Holds (now new) tn (part 1024 2048 (now w)) × GapsLent (now s) t from f at 512 (now w) ⌝ }
     ensures { λ _. ⌜ SideWritten (viewAt (now (new .entry)) tn (part 1024 2048 (now (w .entry))) .roles) (viewFrom (now (s .entry)) t from (now (w .entry))) at (now (w .entry)) (now (w .exit)) ⌝ }
 {
     let mut map = [0; 32];
@@ -201,6 +211,6 @@ pub fn fill_side(new: &[u8], tn: Tally, s: &[u8], w: &mut [u32], t: Tally, from:
         t,
         &mut map,
     );
-    fill_plain(s, w, t, from, at);
+    fill_plain(s, w, t, from, f, at);
     fill_roles(s, w, t, from, &map, n, at + 256);
 }

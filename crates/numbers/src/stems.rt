@@ -1,19 +1,21 @@
-// The stems: for each `pattern` line of both listings, new's and then old's, and for `/`filler, its sort and its best line in old and in new.
+// The stems: for each `pattern` line of both views, new's and then old's, and for `/`filler, its sort and its best line in old and in new. Which lines have
+// one text is told by the numbers of their first lines, which stand where the sorts are written.
 ghost use mathlib.Core.Path.{_≡_};
 ghost use mathlib.Core.Bool.{true};
 ghost use mathlib.Core.List.{[], _++_};
 ghost use Prim.Native.Nat.{_+_, _*_, _≤_, _<_};
 ghost use lib.ListN.{length, getD};
-ghost use Rattle.text.specs.Texts.{indexOf};
 ghost use Rattle.names.specs.Patterns.{default, kindOf, isPermitted};
 ghost use Rattle.reading.specs.Holds.{Holds};
 ghost use Rattle.reading.specs.Views.{texts, viewAt};
-ghost use Rattle.grants.specs.Scratch.{sortOf, stemPlace, textsOf};
-ghost use Rattle.numbers.specs.Writes.{Both, BothLent, oldView, newView, oldTexts, newTexts};
-ghost use Rattle.numbers.specs.Stemming.{standsFirm, seenInNew, seenInOld, putStem, lastStem, StemIs, StemOf, StemsWritten, AllStems};
-use crate::pairs::Pair;
+ghost use Rattle.grants.specs.Scratch.{sortOf, stemPlace};
+ghost use Rattle.numbers.specs.Writes.{Both, oldView, newView, oldTexts, newTexts};
+ghost use Rattle.numbers.specs.Stemming.{isFirmText, softPlace, Placeable, Spottable, SpotIs, Fresh, FreshIs, Stemmable, putStem, lastStem, StemOf, StemsLent, StemsWritten, FirstsLent, AllStems};
 use crate::searching;
+use entries::tables;
 use entries::tables::Tally;
+use firsts::lines;
+use firsts::pairs::Pair;
 use grants::scratch;
 use reading::held;
 use text::texts;
@@ -25,13 +27,16 @@ pub struct Stem {
     pub in_new: u32,
 }
 
-// Whether a text is line k of n, and an exact one or a prefix.
-pub fn stands_firm(text: &[u8], k: usize, n: usize) -> bool
-    ensures { λ r. ⌜ r ≡ standsFirm (now (text .entry)) k n ⌝ }
+// Where a text stands in both views: its line, or their number where it is none of them.
+pub struct Spot {
+    pub in_old: usize,
+    pub in_new: usize,
+}
+
+// Whether a text is an exact one or a prefix.
+pub fn is_firm(text: &[u8]) -> bool
+    ensures { λ r. ⌜ r ≡ isFirmText (now (text .entry)) ⌝ }
 {
-    if n <= k {
-        return false;
-    }
     if text.len() == 0 {
         return true;
     }
@@ -49,13 +54,33 @@ pub fn own_place(k: usize) -> u32
     2 * (k as u32 + 1) + 1
 }
 
-// The best line of the stem of a text in a listing where the text is line k.
-pub fn place_at(s: &[u8], w: &[u32], t: Tally, text: &[u8], k: usize) -> u32
-    requires { ⌜ (Holds (now s) t (now w) × (isPermitted (kindOf (now text)) ≡ true)) × (k ≡ indexOf (now text) (texts (viewAt (now s) t (now w)))) ⌝ }
+// The best line of the stem of an extension that is line k of n, or of `/`: the root's where that is firm, else the extension's own where there is one.
+pub fn soft_place(text: &[u8], k: usize, n: usize, root: u32) -> u32
+    requires { ⌜ k ≤ 128 ⌝ }
+    ensures { λ r. ⌜ r ≡ softPlace (now (text .entry)) k n root ⌝ }
+{
+    if root % 2 == 1 {
+        return root;
+    }
+    if n <= k {
+        return root;
+    }
+    if texts::are_same(text, b"/") {
+        return root;
+    }
+    2 * (k as u32 + 1)
+}
+
+// The best line of the stem of a text in a view where the text is line k, and the best line of `/`filler is `root`.
+pub fn place_at(s: &[u8], w: &[u32], t: Tally, text: &[u8], k: usize, root: u32) -> u32
+    requires { ⌜ Placeable (now s) t (now w) (now text) k root ⌝ }
     ensures { λ r. ⌜ r ≡ stemPlace (texts (viewAt (now (s .entry)) t (now (w .entry)))) (kindOf (now (text .entry))) ⌝ }
 {
     let n = held::pattern_count(s, w, t);
-    if stands_firm(text, k, n) {
+    if !is_firm(text) {
+        return soft_place(text, k, n, root);
+    }
+    if k < n {
         return own_place(k);
     }
     searching::place_of(searching::strongest_at(s, w, t, text))
@@ -98,35 +123,38 @@ pub fn line_text<'a, 'b, 'c>(
     requires { ⌜ Both (now old) (now new) (now wo) (now wn) pair × (j < length (newTexts (now new) (now wn) pair ++ oldTexts (now old) (now wo) pair)) ⌝ }
     ensures { λ r. ⌜ now r ≡ getD (newTexts (now (new .entry)) (now (wn .entry)) pair ++ oldTexts (now (old .entry)) (now (wo .entry)) pair) j [] ⌝ }
 {
+    lines::line_text(old, new, wo, wn, pair, j)
+}
+
+// Where a text stands whose first line of both is f.
+pub fn spot_of<'a, 'b, 'c, 'd>(
+    old: &'a [u8],
+    new: &'a [u8],
+    wo: &'b [u32],
+    wn: &'c [u32],
+    pair: Pair,
+    firsts: &'d [u32],
+    text: &'a [u8],
+    f: u32,
+) -> Spot
+    requires { ⌜ Spottable (now old) (now new) (now wo) (now wn) pair (now firsts) (now text) f ⌝ }
+    ensures { λ r. ⌜ SpotIs (oldTexts (now (old .entry)) (now (wo .entry)) pair) (newTexts (now (new .entry)) (now (wn .entry)) pair) (now (text .entry)) r ⌝ }
+{
     let n = held::pattern_count(new, wn, pair.new);
-    if j < n {
-        return held::pattern(new, wn, pair.new, j);
+    let first = tables::wide(f);
+    if n <= first {
+        return Spot {
+            in_old: first - n,
+            in_new: n,
+        };
     }
-    held::pattern(old, wo, pair.old, j - n)
+    Spot {
+        in_old: searching::line_of(old, wo, pair.old, &firsts[n..n + 128], text, f),
+        in_new: first,
+    }
 }
 
-// Whether a text that is line i of new's n stands there before line j.
-pub fn seen_in_new(i: usize, n: usize, j: usize) -> bool
-    ensures { λ r. ⌜ r ≡ seenInNew i n j ⌝ }
-{
-    if n <= i {
-        return false;
-    }
-    i < j
-}
-
-// Whether a text that is line k of old, and line i of new's n, stands in old alone, and before line j of both.
-pub fn seen_in_old(i: usize, n: usize, k: usize, j: usize) -> bool
-    requires { ⌜ (n ≤ 128) × (k ≤ 128) ⌝ }
-    ensures { λ r. ⌜ r ≡ seenInOld i n k j ⌝ }
-{
-    if i < n {
-        return false;
-    }
-    n + k < j
-}
-
-// The stem of a text, at line j of both.
+// The stem of a text that stands nowhere before.
 pub fn stem_of(
     old: &[u8],
     new: &[u8],
@@ -134,49 +162,48 @@ pub fn stem_of(
     wn: &[u32],
     pair: Pair,
     text: &[u8],
-    j: usize,
+    spot: Spot,
+    last: Stem,
 ) -> Stem
-    requires { ⌜ (Both (now old) (now new) (now wo) (now wn) pair × (isPermitted (kindOf (now text)) ≡ true)) × (j ≤ length (newTexts (now new) (now wn) pair ++ oldTexts (now old) (now wo) pair)) ⌝ }
-    ensures { λ r. ⌜ StemIs (oldTexts (now (old .entry)) (now (wo .entry)) pair) (newTexts (now (new .entry)) (now (wn .entry)) pair) (now (text .entry)) j r ⌝ }
+    requires { ⌜ Fresh (now old) (now new) (now wo) (now wn) pair (now text) spot last ⌝ }
+    ensures { λ r. ⌜ FreshIs (oldTexts (now (old .entry)) (now (wo .entry)) pair) (newTexts (now (new .entry)) (now (wn .entry)) pair) (now (text .entry)) r ⌝ }
 {
-    let n = held::pattern_count(new, wn, pair.new);
-    let i = searching::text_index(new, wn, pair.new, text);
-    if seen_in_new(i, n, j) {
-        return Stem {
-            sort: 0,
-            in_old: 0,
-            in_new: 0,
-        };
-    }
-    let k = searching::text_index(old, wo, pair.old, text);
-    if seen_in_old(i, n, k, j) {
-        return Stem {
-            sort: 0,
-            in_old: 0,
-            in_new: 0,
-        };
-    }
+    let k = spot.in_old;
+    let i = spot.in_new;
+    let root_old = last.in_old;
+    let root_new = last.in_new;
     Stem {
         sort: sort_of(text),
-        in_old: place_at(old, wo, pair.old, text, k),
-        in_new: place_at(new, wn, pair.new, text, i),
+        in_old: place_at(old, wo, pair.old, text, k, root_old),
+        in_new: place_at(new, wn, pair.new, text, i, root_new),
     }
 }
 
 // The stem of line j of both.
-pub fn stem_at<'a, 'b, 'c>(
+pub fn stem_at<'a, 'b, 'c, 'd>(
     old: &'a [u8],
     new: &'a [u8],
     wo: &'b [u32],
     wn: &'c [u32],
     pair: Pair,
+    firsts: &'d [u32],
+    last: Stem,
     j: usize,
 ) -> Stem
-    requires { ⌜ Both (now old) (now new) (now wo) (now wn) pair × (j < length (newTexts (now new) (now wn) pair ++ oldTexts (now old) (now wo) pair)) ⌝ }
+    requires { ⌜ Stemmable (now old) (now new) (now wo) (now wn) pair (now firsts) last j ⌝ }
     ensures { λ r. ⌜ StemOf (oldTexts (now (old .entry)) (now (wo .entry)) pair) (newTexts (now (new .entry)) (now (wn .entry)) pair) j r ⌝ }
 {
+    let f = firsts[j];
+    if tables::wide(f) < j {
+        return Stem {
+            sort: 0,
+            in_old: 0,
+            in_new: 0,
+        };
+    }
     let text = line_text(old, new, wo, wn, pair, j);
-    stem_of(old, new, wo, wn, pair, text, j)
+    let spot = spot_of(old, new, wo, wn, pair, firsts, text, f);
+    stem_of(old, new, wo, wn, pair, text, spot, last)
 }
 
 // Stem j is written into the scratch from `at` on.
@@ -189,7 +216,7 @@ pub fn put_stem(w: &mut [u32], at: usize, j: usize, x: Stem)
     w[at + scratch::SORTS + j] = x.sort;
 }
 
-// The stems of all lines, `count` of them.
+// The stems of all lines, `count` of them; the last stem stands behind them.
 pub fn fill_stems<'a, 'b>(
     old: &'a [u8],
     new: &'a [u8],
@@ -197,13 +224,24 @@ pub fn fill_stems<'a, 'b>(
     pair: Pair,
     at: usize,
     count: usize,
+    last: Stem,
 )
-    requires { ⌜ BothLent (now old) (now new) pair at 2048 (now w) × (count ≡ length (textsOf (oldView (now old) (now w) pair) (newView (now new) (now w) pair))) ⌝ }
+    requires { ⌜ StemsLent (now old) (now new) pair at count last (now w) ⌝ }
     ensures { λ _. ⌜ StemsWritten (texts (oldView (now (old .entry)) (now (w .entry)) pair)) (texts (newView (now (new .entry)) (now (w .entry)) pair)) at count (now (w .entry)) (now (w .exit)) ⌝ }
 {
+    let from = at + scratch::SORTS;
     let mut j = 0;
     while j < count {
-        let x = stem_at(old, new, &w[0..1024], &w[1024..2048], pair, j);
+        let x = stem_at(
+            old,
+            new,
+            &w[0..1024],
+            &w[1024..2048],
+            pair,
+            &w[from..from + 257],
+            last,
+            j,
+        );
         put_stem(w, at, j, x);
         j += 1;
     }
@@ -230,10 +268,10 @@ pub fn write_stems<'a, 'b>(
     at: usize,
     count: usize,
 )
-    requires { ⌜ BothLent (now old) (now new) pair at 2048 (now w) × (count ≡ length (textsOf (oldView (now old) (now w) pair) (newView (now new) (now w) pair))) ⌝ }
+    requires { ⌜ FirstsLent (now old) (now new) pair at count (now w) ⌝ }
     ensures { λ _. ⌜ AllStems (texts (oldView (now (old .entry)) (now (w .entry)) pair)) (texts (newView (now (new .entry)) (now (w .entry)) pair)) at (now (w .entry)) (now (w .exit)) ⌝ }
 {
-    fill_stems(old, new, w, pair, at, count);
     let x = last_stem(old, new, &w[0..1024], &w[1024..2048], pair);
     put_stem(w, at, count, x);
+    fill_stems(old, new, w, pair, at, count, x);
 }

@@ -7,7 +7,7 @@ use native.Mathlib.Omega.{arith}
 use lib.ListN.{length, getD, List·getD-map}
 use lib.Dec.{T, leb, leb→le}
 use borrow.Author.Tests.{ne-eqb}
-use Rattle.text.specs.Texts.{Text, same, indexOf}
+use Rattle.text.specs.Texts.{Text, indexOf}
 use Rattle.listings.specs.Refusals.{accepted, readingOf}
 use Rattle.listings.specs.Listings.{listingOf, recordsOf, patternsOf}
 use Rattle.entries.specs.Tables.{Fits, region, textAt, stamped, textsAt, tablesAt, tablesOf, spanAt, spansAt}
@@ -127,9 +127,6 @@ module _ (s : Text) (t : Tally) (w : List ℕ) (H : Holds s t w) where
     pub rule-text : (u : Text) → u ≡ spanAt s (getD w (64 + k) 0) → u ≡ getD (texts (viewAt s t w)) k []
     unfolding spansAt
     rule-text u e = e ∙ named-by (spanAt s) (span-none s) w 64 (t .patterns) (texts (viewAt s t w)) k spanned-texts here
-
-    pub rule-same : (t′ : Text) (r : Bool) → r ≡ same (spanAt s (getD w (64 + k) 0)) t′ → r ≡ same (getD (texts (viewAt s t w)) k []) t′
-    rule-same t′ r e = e ∙ ap (λ (u : Text). same u t′) (rule-text (spanAt s (getD w (64 + k) 0)) refl)
 
     -- ---- its collection
     module _ (c : ℕ) (e : c ≡ getD w (192 + k) 0) where

@@ -3,7 +3,7 @@ ghost use mathlib.Core.Path.{_≡_};
 ghost use Prim.Native.Nat.{_<_};
 ghost use mathlib.Core.List.{[]};
 ghost use lib.ListN.{length, getD};
-ghost use Rattle.text.specs.Texts.{same, indexOf};
+ghost use Rattle.text.specs.Texts.{indexOf};
 ghost use Rattle.reading.specs.Holds.{Holds};
 ghost use Rattle.reading.specs.Views.{texts, coverAt, accessAt, viewAt};
 use entries::tables;
@@ -30,14 +30,6 @@ pub fn pattern<'a, 'b>(s: &'a [u8], w: &'b [u32], t: Tally, k: usize) -> &'a [u8
     ensures { λ r. ⌜ now r ≡ getD (texts (viewAt (now (s .entry)) t (now (w .entry)))) k [] ⌝ }
 {
     tables::span_at(s, w[tables::PATTERNS + k])
-}
-
-// Whether that is the text.
-pub fn is_pattern(s: &[u8], w: &[u32], t: Tally, k: usize, text: &[u8]) -> bool
-    requires { ⌜ Holds (now s) t (now w) × (k < length (texts (viewAt (now s) t (now w)))) ⌝ }
-    ensures { λ r. ⌜ r ≡ same (getD (texts (viewAt (now (s .entry)) t (now (w .entry)))) k []) (now (text .entry)) ⌝ }
-{
-    tables::spans(s, w[tables::PATTERNS + k], text)
 }
 
 // The methods that the collection of `pattern` line k covers, as the digits of a number.

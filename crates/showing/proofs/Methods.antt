@@ -25,7 +25,7 @@ use Rattle.trials.proofs.Choices.{joined-of}
 use Rattle.grants.specs.Scratch.{pairsIn}
 use Rattle.showing.specs.Shown.{methodsOfBoth, Telling}
 use Rattle.numbers.specs.Writes.{oldMethods, newMethods}
-use Rattle.numbers.specs.declared.pairs.Pair.{Pair}
+use Rattle.firsts.specs.declared.pairs.Pair.{Pair}
 
 -- the numbers stand behind both listings
 pair-at : (w : List ℕ) (i : ℕ) → i < 128 → getD (pairsIn (part 2048 4096 w)) i 0 ≡ getD w (3072 + i) 0

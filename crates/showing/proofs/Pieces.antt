@@ -32,7 +32,7 @@ use Rattle.walks.proofs.Hits.{kind-line, kind-behind, ending-some}
 use Rattle.showing.specs.Shown.{linesOfBoth, methodsOfBoth, fillerAt, Telling, EndingIn, FoundIn, foundRequest, foundHead, foundTail}
 use Rattle.showing.specs.declared.hits.Found.{Found}
 use Rattle.showing.proofs.StemPaths.{tail-short}
-use Rattle.numbers.specs.declared.pairs.Pair.{Pair}
+use Rattle.firsts.specs.declared.pairs.Pair.{Pair}
 use Rattle.numbers.specs.Writes.{Both, oldView, newView, oldTexts, newTexts}
 
 -- ---- the lines of both views

@@ -14,7 +14,7 @@ use Rattle.grants.specs.Sides.{callerAt, Showable, PairsOf}
 use Rattle.grants.specs.Scratch.{pairsIn, textsOf}
 use Rattle.walks.specs.Walks.{hitPath}
 use Rattle.numbers.specs.Writes.{BothHeld, oldView, newView}
-use Rattle.numbers.specs.declared.pairs.Pair.{Pair}
+use Rattle.firsts.specs.declared.pairs.Pair.{Pair}
 use Rattle.showing.specs.declared.hits.Found.{Found}
 
 -- the trial methods of two views

@@ -17,7 +17,7 @@ use crate::paths;
 use entries::tables;
 use entries::tables::Tally;
 use fillers::finding;
-use numbers::pairs::Pair;
+use firsts::pairs::Pair;
 use numbers::stems;
 use reading::held;
 

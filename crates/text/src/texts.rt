@@ -68,6 +68,56 @@ pub fn has_byte(b: u8, t: &[u8]) -> bool
     any_is(b, &t[0..whole]) | any_is(b, &t[last..])
 }
 
+// Whether t and u, of one length, are the same bytes, every byte looked at: as `any_is`, for two texts.
+pub fn all_same(t: &[u8], u: &[u8]) -> bool
+    requires { ⌜ length (now t) ≡ length (now u) ⌝ }
+    ensures { λ r. ⌜ r ≡ same (now (t .entry)) (now (u .entry)) ⌝ }
+{
+    let mut alike = true;
+    let mut i = 0;
+    while i < t.len() {
+        alike = alike & (t[i] == u[i]);
+        i += 1;
+    }
+    alike
+}
+
+// Whether t and u, of one length and at most 32 bytes, are the same: all of them, or their first 8 or 16 bytes and as many at their ends, which may be the same ones.
+pub fn ends_same(t: &[u8], u: &[u8]) -> bool
+    requires { ⌜ (length (now t) ≡ length (now u)) × (length (now t) ≤ 32) ⌝ }
+    ensures { λ r. ⌜ r ≡ same (now (t .entry)) (now (u .entry)) ⌝ }
+{
+    let n = t.len();
+    if n < 8 {
+        return are_same(t, u);
+    }
+    if n < 16 {
+        let e = n - 8;
+        return all_same(&t[0..8], &u[0..8]) & all_same(&t[e..], &u[e..]);
+    }
+    let e = n - 16;
+    all_same(&t[0..16], &u[0..16]) & all_same(&t[e..], &u[e..])
+}
+
+// Whether t and u are the same bytes, up to 32 looked at at once: for texts that are long, and begin and end alike. Of 32 bytes and more the last 32 are compared, then the whole 32s.
+pub fn are_alike(t: &[u8], u: &[u8]) -> bool
+    ensures { λ r. ⌜ r ≡ same (now (t .entry)) (now (u .entry)) ⌝ }
+{
+    let n = t.len();
+    if n != u.len() {
+        return false;
+    }
+    if n < 32 {
+        return ends_same(t, u);
+    }
+    let last = n - 32;
+    if !all_same(&t[last..], &u[last..]) {
+        return false;
+    }
+    let whole = n - n % 32;
+    all_same(&t[0..whole], &u[0..whole])
+}
+
 // Whether t starts with the prefix p.
 pub fn starts_with(p: &[u8], t: &[u8]) -> bool
     ensures { λ r. ⌜ r ≡ startsWith (now (p .entry)) (now (t .entry)) ⌝ }

@@ -5,7 +5,7 @@ use borrow.Author.Needs.{needs}
 use lib.ListN.{length, drop}
 use Rattle.fillers.specs.Marks.{within}
 use Rattle.fillers.proofs.Marking.{Remaining}
-use Rattle.fillers.proofs.MarkingTexts.{text-starts, text-ends, text-turns, text-skips}
+use Rattle.fillers.proofs.MarkingTexts.{text-starts, text-ends, text-passes, text-turns, text-skips}
 use Rattle.fillers.proofs.finding.mark_text.Statement.{statement}
 use Rattle.fillers.proofs.finding.mark_text.Tie as tie
 
@@ -36,11 +36,14 @@ part-mark-number-end c = search needs
 mark-number-requires : tie.Need-mark-number-requires Inv-loop μ-loop
 mark-number-requires c κs = search needs
 
+add-i : tie.Need-add-i Inv-loop μ-loop
+add-i c = search (needs, text-passes)
+
 loop-less : tie.Need-loop-less Inv-loop μ-loop
 loop-less c = search needs
 
 loop-again : tie.Need-loop-again Inv-loop μ-loop
-loop-again c = (search needs, search needs, search (needs, text-turns))
+loop-again c = (search (needs, text-passes), search needs, search (needs, text-turns))
 
 loop-less-2 : tie.Need-loop-less-2 Inv-loop μ-loop
 loop-less-2 c = search needs
@@ -67,6 +70,7 @@ mark-text-spec =
     part-mark-number-start
     part-mark-number-end
     mark-number-requires
+    add-i
     loop-less
     loop-again
     loop-less-2

@@ -1,6 +1,6 @@
--- `numbering::write_lines` meets its contract, by its three calls.
+-- `numbering::write_lines` meets its contract, by its calls.
 use borrow.Author.Needs.{needs}
-use Rattle.numbers.proofs.Numberings.{lines-fit, lines-both, counts-are}
+use Rattle.numbers.proofs.Numberings.{lines-more, firsts-lent, counts-are}
 use Rattle.numbers.proofs.numbering.write_lines.Statement.{statement}
 use Rattle.numbers.proofs.numbering.write_lines.Tie as tie
 
@@ -16,23 +16,11 @@ part-pattern-count-end c = search needs
 pattern-count-requires : tie.Need-pattern-count-requires
 pattern-count-requires c κs = search needs
 
-sub-pattern-count-2 : tie.Need-sub-pattern-count-2
-sub-pattern-count-2 c = search needs
-
-part-pattern-count-start-2 : tie.Need-part-pattern-count-start-2
-part-pattern-count-start-2 c = search needs
-
-part-pattern-count-end-2 : tie.Need-part-pattern-count-end-2
-part-pattern-count-end-2 c = search needs
-
-pattern-count-requires-2 : tie.Need-pattern-count-requires-2
-pattern-count-requires-2 c κs = search needs
-
 add-write-stems : tie.Need-add-write-stems
-add-write-stems c = search (needs, lines-fit)
+add-write-stems c = search (needs, lines-more)
 
 write-stems-requires : tie.Need-write-stems-requires
-write-stems-requires c κs = (search needs, search (needs, lines-both))
+write-stems-requires c κs = search (needs, firsts-lent)
 
 same-length : tie.Need-same-length
 same-length c = search needs
@@ -48,10 +36,6 @@ write-lines-spec =
     part-pattern-count-start
     part-pattern-count-end
     pattern-count-requires
-    sub-pattern-count-2
-    part-pattern-count-start-2
-    part-pattern-count-end-2
-    pattern-count-requires-2
     add-write-stems
     write-stems-requires
     same-length

@@ -1,21 +1,21 @@
--- `numbering::write_numbers` meets its contract: the stems behind the tables.
+-- `numbering::write_numbers` meets its contract: the first lines, then all else.
 use borrow.Author.Needs.{needs}
-use Rattle.numbers.proofs.Numberings.{stems-lent, numbers-written}
+use Rattle.numbers.proofs.Numberings.{tables-lent, all-written}
 use Rattle.numbers.proofs.numbering.write_numbers.Statement.{statement}
 use Rattle.numbers.proofs.numbering.write_numbers.Tie as tie
 
-write-tables-requires : tie.Need-write-tables-requires
-write-tables-requires c κs = search needs
+write-firsts-requires : tie.Need-write-firsts-requires
+write-firsts-requires c κs = search needs
 
-write-lines-requires : tie.Need-write-lines-requires
-write-lines-requires c κs = search (needs, stems-lent)
+write-rest-requires : tie.Need-write-rest-requires
+write-rest-requires c κs = search (needs, tables-lent)
 
 same-length : tie.Need-same-length
 same-length c = search needs
 
 returns : tie.Need-returns
-returns c = search (needs, numbers-written)
+returns c = search (needs, all-written)
 
 pub write-numbers-spec : {M : Type 1} → statement M
 write-numbers-spec =
-    tie.close (tie.spec write-tables-requires write-lines-requires same-length returns)
+    tie.close (tie.spec write-firsts-requires write-rest-requires same-length returns)

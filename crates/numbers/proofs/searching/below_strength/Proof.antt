@@ -40,11 +40,11 @@ returns-3 c = search (needs, ladder, below-is)
 sub-n : tie.Need-sub-n
 sub-n c = search (needs, ended-long, not-false)
 
-slice-aggregate-is-under : tie.Need-slice-aggregate-is-under
-slice-aggregate-is-under c = sym (length-take-le _ _ (omega arith))
+slice-aggregate-is-above : tie.Need-slice-aggregate-is-above
+slice-aggregate-is-above c = sym (length-take-le _ _ (omega arith))
 
-is-under-requires : tie.Need-is-under-requires
-is-under-requires c κs = search needs
+is-above-requires : tie.Need-is-above-requires
+is-above-requires c κs = search needs
 
 cast-result : tie.Need-cast-result
 cast-result c = search needs
@@ -72,8 +72,8 @@ below-strength-spec =
     ends-with-requires
     returns-3
     sub-n
-    slice-aggregate-is-under
-    is-under-requires
+    slice-aggregate-is-above
+    is-above-requires
     cast-result
     add-result
     returns-4

@@ -2,16 +2,16 @@
 use borrow.Author.Needs.{needs}
 use Prim.Native.Nat.{_-_}
 use Rattle.grants.specs.Sides.{gapAt}
-use Rattle.numbers.proofs.Writings.{Writing, write-start, line-there, write-more, write-all}
-use Rattle.numbers.proofs.SideLines.{gap-small}
+use Rattle.numbers.proofs.Writings.{Writing, write-start, write-more, write-all}
+use Rattle.numbers.proofs.SideLines.{gap-small, gap-lent}
 use Rattle.numbers.proofs.sides.fill_gaps.Statement.{statement}
 use Rattle.numbers.proofs.sides.fill_gaps.Tie as tie
 
 abbrev Inv-loop : tie.InvT-loop
-Inv-loop s w₀ t from at n k₀ w k = Writing s t from at n k gapAt w₀ w
+Inv-loop s w₀ t from f at n k₀ w k = Writing s t from at n k gapAt w₀ w
 
 abbrev μ-loop : tie.MeasureT-loop
-μ-loop s w₀ t from at n k₀ w k = n - k
+μ-loop s w₀ t from f at n k₀ w k = n - k
 
 add-pattern-count : tie.Need-add-pattern-count Inv-loop μ-loop
 add-pattern-count c = search needs
@@ -49,8 +49,23 @@ part-gap-start c = search needs
 part-gap-end : tie.Need-part-gap-end Inv-loop μ-loop
 part-gap-end c = search needs
 
+add-gap-2 : tie.Need-add-gap-2 Inv-loop μ-loop
+add-gap-2 c = search needs
+
+mul-gap-2 : tie.Need-mul-gap-2 Inv-loop μ-loop
+mul-gap-2 c = search needs
+
+sub-gap-2 : tie.Need-sub-gap-2 Inv-loop μ-loop
+sub-gap-2 c = search needs
+
+part-gap-start-2 : tie.Need-part-gap-start-2 Inv-loop μ-loop
+part-gap-start-2 c = search needs
+
+part-gap-end-2 : tie.Need-part-gap-end-2 Inv-loop μ-loop
+part-gap-end-2 c = search needs
+
 gap-requires : tie.Need-gap-requires Inv-loop μ-loop
-gap-requires c κs = (search needs, search (needs, line-there))
+gap-requires c κs = search (needs, gap-lent)
 
 cast-w : tie.Need-cast-w Inv-loop μ-loop
 cast-w c = search (needs, gap-small)
@@ -97,6 +112,11 @@ fill-gaps-spec =
     sub-gap
     part-gap-start
     part-gap-end
+    add-gap-2
+    mul-gap-2
+    sub-gap-2
+    part-gap-start-2
+    part-gap-end-2
     gap-requires
     cast-w
     add-w

@@ -1,6 +1,6 @@
 -- `sides::fill_plain` meets its contract: three parts are filled one after the other.
 use borrow.Author.Needs.{needs}
-use Rattle.numbers.proofs.SideLines.{side-first, side-second, side-fourth, side-plain}
+use Rattle.numbers.proofs.SideLines.{side-first, side-second, side-gaps, side-plain}
 use Rattle.numbers.proofs.sides.fill_plain.Statement.{statement}
 use Rattle.numbers.proofs.sides.fill_plain.Tie as tie
 
@@ -20,7 +20,8 @@ fill-gaps-requires : tie.Need-fill-gaps-requires
 fill-gaps-requires c κs =
     let marks = c .before .before .before in
     let covers = marks .before .before .before .before in
-    side-fourth _ _ _ _ _ (covers .before .before .before .before .pre) _ (covers .fill-covers .ensures) _ (marks .fill-marks .ensures)
+    let G = covers .before .before .before .before .pre in
+    side-gaps _ _ _ _ _ (G .lent) _ (covers .fill-covers .ensures) _ (marks .fill-marks .ensures) _ G
 
 same-length : tie.Need-same-length
 same-length c = search needs

@@ -1,19 +1,21 @@
--- `sides::gap` meets its contract: no line passed has the text.
+-- `sides::gap` meets its contract: no line passed has the number of line k.
 use borrow.Author.Needs.{needs}
 use Prim.Native.Nat.{_-_}
-use Rattle.reading.specs.Views.{viewAt}
-use Rattle.numbers.proofs.SideLines.{Gapping, gap-start, gap-found, gap-further, gap-none}
+use Rattle.numbers.proofs.SideLines.{GappingTo, gap-start, gap-there, gap-fits, gap-next, gap-begun, gap-found, gap-further, gap-none}
 use Rattle.numbers.proofs.sides.gap.Statement.{statement}
 use Rattle.numbers.proofs.sides.gap.Tie as tie
 
 abbrev Inv-loop : tie.InvT-loop
-Inv-loop s w t k text n from j₀ j = Gapping (viewAt s t w) k n j
+Inv-loop s w firsts k f n from j₀ j = GappingTo s w firsts k f n j
 
 abbrev μ-loop : tie.MeasureT-loop
-μ-loop s w t k text n from j₀ j = n - j
+μ-loop s w firsts k f n from j₀ j = n - j
 
-pattern-requires : tie.Need-pattern-requires Inv-loop μ-loop
-pattern-requires c κs = search needs
+mul-f : tie.Need-mul-f Inv-loop μ-loop
+mul-f c = search needs
+
+shared-slice-read-f : tie.Need-shared-slice-read-f Inv-loop μ-loop
+shared-slice-read-f c = search (needs, gap-there)
 
 pattern-count-requires : tie.Need-pattern-count-requires Inv-loop μ-loop
 pattern-count-requires c κs = search needs
@@ -24,11 +26,14 @@ add-from c = search needs
 loop-holds : tie.Need-loop-holds Inv-loop μ-loop
 loop-holds c = search (needs, gap-start)
 
-is-pattern-requires : tie.Need-is-pattern-requires Inv-loop μ-loop
-is-pattern-requires c κs = search needs
+mul-if1 : tie.Need-mul-if1 Inv-loop μ-loop
+mul-if1 c = search needs
+
+shared-slice-read-if1 : tie.Need-shared-slice-read-if1 Inv-loop μ-loop
+shared-slice-read-if1 c = search (needs, gap-next)
 
 sub-result : tie.Need-sub-result Inv-loop μ-loop
-sub-result c = search needs
+sub-result c = search (needs, gap-begun)
 
 returns : tie.Need-returns Inv-loop μ-loop
 returns c = search (needs, gap-found)
@@ -43,7 +48,7 @@ loop-again : tie.Need-loop-again Inv-loop μ-loop
 loop-again c = search (needs, gap-further)
 
 sub-result-2 : tie.Need-sub-result-2 Inv-loop μ-loop
-sub-result-2 c = search needs
+sub-result-2 c = search (needs, gap-fits)
 
 returns-2 : tie.Need-returns-2 Inv-loop μ-loop
 returns-2 c = search (needs, gap-none)
@@ -54,11 +59,13 @@ gap-spec =
     (tie.spec
     Inv-loop
     μ-loop
-    pattern-requires
+    mul-f
+    shared-slice-read-f
     pattern-count-requires
     add-from
     loop-holds
-    is-pattern-requires
+    mul-if1
+    shared-slice-read-if1
     sub-result
     returns
     add-j

@@ -1,15 +1,18 @@
 -- `stems::fill_stems` meets its contract: one stem more at each turn.
 use borrow.Author.Needs.{needs}
 use Prim.Native.Nat.{_-_}
-use Rattle.numbers.proofs.StemsPut.{StemmingTo, stems-start, stem-there, stems-more, stems-all}
+use Rattle.numbers.proofs.StemsPut.{StemmingTo, stems-start, stems-next, stems-more, stems-all}
 use Rattle.numbers.proofs.stems.fill_stems.Statement.{statement}
 use Rattle.numbers.proofs.stems.fill_stems.Tie as tie
 
 abbrev Inv-loop : tie.InvT-loop
-Inv-loop old new w₀ pair at count j₀ w j = StemmingTo old new pair at count j w₀ w
+Inv-loop old new w₀ pair at count last from j₀ w j = StemmingTo old new pair at count last j w₀ w
 
 abbrev μ-loop : tie.MeasureT-loop
-μ-loop old new w₀ pair at count j₀ w j = count - j
+μ-loop old new w₀ pair at count last from j₀ w j = count - j
+
+add-from : tie.Need-add-from Inv-loop μ-loop
+add-from c = search needs
 
 loop-holds : tie.Need-loop-holds Inv-loop μ-loop
 loop-holds c = search (needs, stems-start)
@@ -32,8 +35,23 @@ part-stem-at-start-2 c = search needs
 part-stem-at-end-2 : tie.Need-part-stem-at-end-2 Inv-loop μ-loop
 part-stem-at-end-2 c = search needs
 
+add-stem-at : tie.Need-add-stem-at Inv-loop μ-loop
+add-stem-at c = search needs
+
+mul-stem-at : tie.Need-mul-stem-at Inv-loop μ-loop
+mul-stem-at c = search needs
+
+sub-stem-at-3 : tie.Need-sub-stem-at-3 Inv-loop μ-loop
+sub-stem-at-3 c = search needs
+
+part-stem-at-start-3 : tie.Need-part-stem-at-start-3 Inv-loop μ-loop
+part-stem-at-start-3 c = search needs
+
+part-stem-at-end-3 : tie.Need-part-stem-at-end-3 Inv-loop μ-loop
+part-stem-at-end-3 c = search needs
+
 stem-at-requires : tie.Need-stem-at-requires Inv-loop μ-loop
-stem-at-requires c κs = (search needs, search (needs, stem-there))
+stem-at-requires c κs = search (needs, stems-next)
 
 put-stem-requires : tie.Need-put-stem-requires Inv-loop μ-loop
 put-stem-requires c κs = search needs
@@ -59,6 +77,7 @@ fill-stems-spec =
     (tie.spec
     Inv-loop
     μ-loop
+    add-from
     loop-holds
     sub-stem-at
     part-stem-at-start
@@ -66,6 +85,11 @@ fill-stems-spec =
     sub-stem-at-2
     part-stem-at-start-2
     part-stem-at-end-2
+    add-stem-at
+    mul-stem-at
+    sub-stem-at-3
+    part-stem-at-start-3
+    part-stem-at-end-3
     stem-at-requires
     put-stem-requires
     add-j

@@ -1,11 +1,8 @@
--- `stems::write_stems` meets its contract: the last stem behind the others.
+-- `stems::write_stems` meets its contract: the last stem, then the others.
 use borrow.Author.Needs.{needs}
-use Rattle.numbers.proofs.StemsPut.{last-both, last-room, lines-few, stems-last}
+use Rattle.numbers.proofs.StemsPut.{last-both, lines-few, stems-ready, stems-last}
 use Rattle.numbers.proofs.stems.write_stems.Statement.{statement}
 use Rattle.numbers.proofs.stems.write_stems.Tie as tie
-
-fill-stems-requires : tie.Need-fill-stems-requires
-fill-stems-requires c κs = search needs
 
 sub-last-stem : tie.Need-sub-last-stem
 sub-last-stem c = search needs
@@ -29,7 +26,10 @@ last-stem-requires : tie.Need-last-stem-requires
 last-stem-requires c κs = search (needs, last-both)
 
 put-stem-requires : tie.Need-put-stem-requires
-put-stem-requires c κs = (search (needs, last-room), search (needs, lines-few))
+put-stem-requires c κs = (search needs, search (needs, lines-few))
+
+fill-stems-requires : tie.Need-fill-stems-requires
+fill-stems-requires c κs = search (needs, stems-ready)
 
 same-length : tie.Need-same-length
 same-length c = search needs
@@ -41,7 +41,6 @@ pub write-stems-spec : {M : Type 1} → statement M
 write-stems-spec =
     tie.close
     (tie.spec
-    fill-stems-requires
     sub-last-stem
     part-last-stem-start
     part-last-stem-end
@@ -50,5 +49,6 @@ write-stems-spec =
     part-last-stem-end-2
     last-stem-requires
     put-stem-requires
+    fill-stems-requires
     same-length
     returns)
