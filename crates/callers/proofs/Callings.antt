@@ -20,9 +20,9 @@ use Rattle.reading.specs.Holds.{Holds}
 use Rattle.reading.specs.Views.{View, viewAt}
 use Rattle.entries.specs.declared.tables.Tally.{Tally}
 use Rattle.text.proofs.Truths.{or-right}
-use Rattle.callers.specs.Holdings.{withRole, heldFrom, heldBy}
-use Rattle.callers.specs.declared.Held.{Held}
-use Rattle.callers.specs.declared.Held.the-variants.{Bad, Good}
+use Rattle.callers.specs.RoleSets.{withRole, checkNames, checkCaller}
+use Rattle.callers.specs.declared.Checked.{Checked}
+use Rattle.callers.specs.declared.Checked.the-variants.{Bad, Good}
 use Rattle.callers.specs.declared.Who.the-variants.{Nobody, Roles}
 
 -- ---- a role put in
@@ -118,14 +118,14 @@ unclean-name : (t : Text) → all isText t ≡ false → isRoleName t ≡ false
 unfolding isRoleName isName
 unclean-name t f = rw (f, and-false (between 1 64 (length t)))
 
-unclean-bad : (view : View) (k x : ℕ) (ls : List Line) → Unclean ls → heldFrom view k x ls ≡ Bad
-unfolding heldFrom
+unclean-bad : (view : View) (k x : ℕ) (ls : List Line) → Unclean ls → checkNames view k x ls ≡ Bad
+unfolding checkNames
 unclean-bad view k x ls (n, ns, e, f) = rw (e, unclean-name (n .bytes) f, and-false (n .ended))
 
 -- ---- the loop
--- the names from place `at` on are still to come, behind k names whose roles are x
+-- the names from offset `at` on are still to come, behind k names whose roles are x
 pub record Naming (view : View) (s : Text) (k x at : ℕ) : Type 0 where
-  pub due : heldFrom view 0 0 (linesOf s) ≡ heldFrom view k x (linesOf (drop at s))
+  pub due : checkNames view 0 0 (linesOf s) ≡ checkNames view k x (linesOf (drop at s))
 
 -- the field at `at` stops at p, before the text's end
 module _ (s : Text) (at p : ℕ) (q : p ≡ at + toFieldEnd (drop at s)) (h : p < length s) where
@@ -150,62 +150,62 @@ names-begin view s = record { due = refl }
 
 module _ (view : View) (s : Text) (k x at : ℕ) (v : Naming view s k x at) where
   -- no more names
-  pub names-end : length s ≤ at → Good (Roles x) ≡ heldFrom view 0 0 (linesOf s)
-  unfolding heldFrom linesOf
+  pub names-end : length s ≤ at → Good (Roles x) ≡ checkNames view 0 0 (linesOf s)
+  unfolding checkNames linesOf
   names-end h = sym (v .due ∙ rw (drop-of-length-le s h))
 
   module _ (p : ℕ) (q : p ≡ at + toFieldEnd (drop at s)) where
     -- the next name lacks its byte 10
-    pub name-open : at < length s → length s ≤ p → Bad ≡ heldFrom view 0 0 (linesOf s)
-    unfolding heldFrom
+    pub name-open : at < length s → length s ≤ p → Bad ≡ checkNames view 0 0 (linesOf s)
+    unfolding checkNames
     name-open h g =
         let n : 0 < length (drop at s) = rw (length-drop at s) (omega arith) in
         let m : length (drop at s) ≤ toFieldEnd (drop at s) = rw (length-drop at s) (omega arith) in
         sym (v .due ∙ rw (line-open (drop at s) n m))
 
     -- it has a tab
-    pub name-tabbed : p < length s → (getD s p 0 ≡ 10 → ⊥) → Bad ≡ heldFrom view 0 0 (linesOf s)
+    pub name-tabbed : p < length s → (getD s p 0 ≡ 10 → ⊥) → Bad ≡ checkNames view 0 0 (linesOf s)
     name-tabbed h n = sym (v .due ∙ unclean-bad view k x (linesOf (drop at s)) (tabbed-line s at p q h n))
 
     -- it is no role name
-    pub name-wrong : (r : Bool) → p < length s → getD s p 0 ≡ 10 → r ≡ isRoleName (part at p s) → not r ≡ true → Bad ≡ heldFrom view 0 0 (linesOf s)
-    unfolding heldFrom
+    pub name-wrong : (r : Bool) → p < length s → getD s p 0 ≡ 10 → r ≡ isRoleName (part at p s) → not r ≡ true → Bad ≡ checkNames view 0 0 (linesOf s)
+    unfolding checkNames
     name-wrong r h e i n = sym (v .due ∙ rw (ended-line s at p q h e, ← i, not-true r n))
 
     -- it is one too many
-    pub name-past : (r : Bool) → p < length s → getD s p 0 ≡ 10 → r ≡ isRoleName (part at p s) → not r ≡ false → 32 ≤ k → Bad ≡ heldFrom view 0 0 (linesOf s)
-    unfolding heldFrom
+    pub name-past : (r : Bool) → p < length s → getD s p 0 ≡ 10 → r ≡ isRoleName (part at p s) → not r ≡ false → 32 ≤ k → Bad ≡ checkNames view 0 0 (linesOf s)
+    unfolding checkNames
     name-past r h e i n m = sym (v .due ∙ rw (ended-line s at p q h e, ← i, not-false r n, le-leb 32 k m))
 
 -- it is read, and its role put in; the result that says that it is a role name comes first, for a search to be told of it
 pub name-read : (r : Bool) (view : View) (s : Text) (k x y at p : ℕ) → Naming view s k x at → p ≡ at + toFieldEnd (drop at s) → p < length s → getD s p 0 ≡ 10
     → r ≡ isRoleName (part at p s) → not r ≡ false → k < 32 → y ≡ withRole view x (part at p s) → Naming view s (k + 1) y (p + 1)
-unfolding heldFrom
+unfolding checkNames
 name-read r view s k x y at p v q h e i n m f =
     record { due = v .due ∙ rw (ended-line s at p q h e, ← i, not-false r n, lt-leb 32 k m, f, add-one k) }
 
 -- ---- the caller of a login number
 module _ (view : View) (t : Text) where
   -- logged in
-  pub login-one : (login : ℕ) (r : Held) → login ≡ 1 → r ≡ heldFrom view 0 0 (linesOf t) → r ≡ heldBy view login t
-  unfolding heldBy
+  pub login-one : (login : ℕ) (r : Checked) → login ≡ 1 → r ≡ checkNames view 0 0 (linesOf t) → r ≡ checkCaller view login t
+  unfolding checkCaller
   login-one login r e f = rw e f
 
   -- a number that says nothing
-  pub login-other : (login : ℕ) → (login ≡ 1 → ⊥) → (login ≡ 0 → ⊥) → Bad ≡ heldBy view login t
-  unfolding heldBy
+  pub login-other : (login : ℕ) → (login ≡ 1 → ⊥) → (login ≡ 0 → ⊥) → Bad ≡ checkCaller view login t
+  unfolding checkCaller
   login-other zero n m = absurd (m refl)
   login-other (suc zero) n m = absurd (n refl)
   login-other (suc (suc k)) n m = refl
 
 -- not logged in, with names
-pub login-named : (view : View) (t : Text) (login : ℕ) → login ≡ 0 → 0 < length t → Bad ≡ heldBy view login t
-unfolding heldBy
+pub login-named : (view : View) (t : Text) (login : ℕ) → login ≡ 0 → 0 < length t → Bad ≡ checkCaller view login t
+unfolding checkCaller
 login-named view [] login e h = absurd (omega arith)
 login-named view (x ∷ xs) login e h = rw e
 
 -- not logged in
-pub login-none : (view : View) (t : Text) (login : ℕ) → login ≡ 0 → length t ≤ 0 → Good Nobody ≡ heldBy view login t
-unfolding heldBy
+pub login-none : (view : View) (t : Text) (login : ℕ) → login ≡ 0 → length t ≤ 0 → Good Nobody ≡ checkCaller view login t
+unfolding checkCaller
 login-none view [] login e h = rw e
 login-none view (x ∷ xs) login e h = absurd (omega arith)

@@ -1,5 +1,5 @@
 -- The laws of callers:
---   Holders   the caller as a view sees it
+--   Checks    the caller as a view sees it
 --   Callings  the caller's names, as the code reads them
-pub mod Holders
+pub mod Checks
 pub mod Callings

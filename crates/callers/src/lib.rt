@@ -1,4 +1,4 @@
-// Who the caller is, and which of the listing's roles it holds.
+// Who the caller is, and which of the listing's roles it has.
 ghost use mathlib.Core.Path.{_≡_};
 ghost use Prim.Native.Nat.{_≤_, _<_};
 ghost use lib.ListN.{length};
@@ -6,7 +6,7 @@ ghost use Rattle.text.specs.Bytes.{classTable};
 ghost use Rattle.text.specs.Lines.{linesOf};
 ghost use Rattle.reading.specs.Holds.{Holds};
 ghost use Rattle.reading.specs.Views.{viewAt};
-ghost use Rattle.callers.specs.Holdings.{heldBy, heldFrom, withRole};
+ghost use Rattle.callers.specs.RoleSets.{checkCaller, checkNames, withRole};
 use entries::tables::Tally;
 use reading::held;
 use text::texts;
@@ -18,7 +18,7 @@ pub enum Who {
 }
 
 // What a login number and a text of names come to: bad, or a caller.
-pub enum Held {
+pub enum Checked {
     Bad,
     Good(Who),
 }
@@ -36,9 +36,9 @@ pub fn with_role(s: &[u8], w: &[u32], t: Tally, set: u64, name: &[u8]) -> u64
 }
 
 // The roles of a caller who is logged in.
-pub fn holder(table: &[u8; 256], s: &[u8], w: &[u32], t: Tally, names: &[u8]) -> Held
+pub fn logged_in(table: &[u8; 256], s: &[u8], w: &[u32], t: Tally, names: &[u8]) -> Checked
     requires { ⌜ (now table ≡ classTable) × Holds (now s) t (now w) ⌝ }
-    ensures { λ r. ⌜ r ≡ heldFrom (viewAt (now (s .entry)) t (now (w .entry))) 0 0 (linesOf (now (names .entry))) ⌝ }
+    ensures { λ r. ⌜ r ≡ checkNames (viewAt (now (s .entry)) t (now (w .entry))) 0 0 (linesOf (now (names .entry))) ⌝ }
 {
     let mut set = 0;
     let mut count: usize = 0;
@@ -48,37 +48,37 @@ pub fn holder(table: &[u8; 256], s: &[u8], w: &[u32], t: Tally, names: &[u8]) ->
         let e = name.end;
         let clean = name.clean;
         if names.len() <= e {
-            return Held::Bad;
+            return Checked::Bad;
         }
         if names[e] != b'\n' {
-            return Held::Bad;
+            return Checked::Bad;
         }
         if !names::is_role_name(&names[at..e], clean) {
-            return Held::Bad;
+            return Checked::Bad;
         }
         if 32 <= count {
-            return Held::Bad;
+            return Checked::Bad;
         }
         set = with_role(s, w, t, set, &names[at..e]);
         count = count + 1;
         at = e + 1;
     }
-    Held::Good(Who::Roles(set))
+    Checked::Good(Who::Roles(set))
 }
 
 // The caller of a login number and a text of names.
-pub fn caller(table: &[u8; 256], s: &[u8], w: &[u32], t: Tally, login: u32, names: &[u8]) -> Held
+pub fn caller(table: &[u8; 256], s: &[u8], w: &[u32], t: Tally, login: u32, names: &[u8]) -> Checked
     requires { ⌜ (now table ≡ classTable) × Holds (now s) t (now w) ⌝ }
-    ensures { λ r. ⌜ r ≡ heldBy (viewAt (now (s .entry)) t (now (w .entry))) login (now (names .entry)) ⌝ }
+    ensures { λ r. ⌜ r ≡ checkCaller (viewAt (now (s .entry)) t (now (w .entry))) login (now (names .entry)) ⌝ }
 {
     if login == 1 {
-        return holder(table, s, w, t, names);
+        return logged_in(table, s, w, t, names);
     }
     if login != 0 {
-        return Held::Bad;
+        return Checked::Bad;
     }
     if 0 < names.len() {
-        return Held::Bad;
+        return Checked::Bad;
     }
-    Held::Good(Who::Nobody)
+    Checked::Good(Who::Nobody)
 }

@@ -12,12 +12,12 @@ use Rattle.writing.proofs.Puts.{sets-then, sets-start}
 use Rattle.compare.specs.Printed.{decimal, whereText, refusalLine, written}
 
 -- ---- a field: a tab, and a number behind it
-module _ (out out₁ : Text) (at a n : ℕ) (place : a ≡ at + 1) where
-  pub field-place : (r : ℕ) → r ≡ a + length (decimal n) → r ≡ at + length (tab ∷ decimal n)
-  field-place r e = omega arith
+module _ (out out₁ : Text) (at a n : ℕ) (offset : a ≡ at + 1) where
+  pub field-offset : (r : ℕ) → r ≡ a + length (decimal n) → r ≡ at + length (tab ∷ decimal n)
+  field-offset r e = omega arith
 
   pub field-bytes : out₁ ≡ sets out at (bytes "\t") → (out₂ : Text) → out₂ ≡ sets out₁ a (decimal n) → out₂ ≡ sets out at (tab ∷ decimal n)
-  field-bytes put out₂ e = sets-then out out₁ out₂ (bytes "\t") (decimal n) at a place put e
+  field-bytes put out₂ e = sets-then out out₁ out₂ (bytes "\t") (decimal n) at a offset put e
 
   pub field-size : (r : ℕ) → r ≡ a + length (decimal n) → r ≤ at + 11
   field-size r e = let l = digits-most 10 n in omega arith
@@ -27,8 +27,8 @@ module _ (out out₁ out₂ out₃ : Text) (at side line a b : ℕ) (at₁ : a �
   both : b ≡ at + length ((tab ∷ decimal side) ++ (tab ∷ decimal line))
   both = omega (arith, length-append (tab ∷ decimal side) (tab ∷ decimal line))
 
-  pub where-place : (r : ℕ) → r ≡ b + 1 → r ≡ at + length (whereText side line)
-  where-place r e = omega (arith, both, length-append ((tab ∷ decimal side) ++ (tab ∷ decimal line)) (bytes "\n"))
+  pub where-offset : (r : ℕ) → r ≡ b + 1 → r ≡ at + length (whereText side line)
+  where-offset r e = omega (arith, both, length-append ((tab ∷ decimal side) ++ (tab ∷ decimal line)) (bytes "\n"))
 
   pub where-bytes : out₁ ≡ sets out at (tab ∷ decimal side) → out₂ ≡ sets out₁ a (tab ∷ decimal line) → out₃ ≡ sets out₂ b (bytes "\n") → out₃ ≡ sets out at (whereText side line)
   where-bytes p q s =

@@ -35,15 +35,15 @@ some-number PastMost e = omega arith
 some-number NoEnd e = omega arith
 
 -- so number 0 stands beside an answer alone, which is what is printed
-abbrev Answered : Compared → Text → Type 0
-Answered d answer = (comparisonFor d .length ≡ length (printedFor d)) × (answerFor d answer ≡ written (printedFor d) answer)
+abbrev AsPrinted : Compared → Text → Type 0
+AsPrinted d answer = (comparisonFor d .length ≡ length (printedFor d)) × (answerFor d answer ≡ written (printedFor d) answer)
 
-zero-new : (old new answer : Text) (r : Reading) → comparisonFor (comparedNew old new r) .report .number ≡ 0 → Answered (comparedNew old new r) answer
+zero-new : (old new answer : Text) (r : Reading) → comparisonFor (comparedNew old new r) .report .number ≡ 0 → AsPrinted (comparedNew old new r) answer
 unfolding printedFor
 zero-new old new answer accepted e = (refl, refl)
 zero-new old new answer (refusal f n) e = absurd (some-number f e)
 
-zero-old : (old new answer : Text) (r : Reading) → comparisonFor (comparedOld old new r) .report .number ≡ 0 → Answered (comparedOld old new r) answer
+zero-old : (old new answer : Text) (r : Reading) → comparisonFor (comparedOld old new r) .report .number ≡ 0 → AsPrinted (comparedOld old new r) answer
 zero-old old new answer accepted e = zero-new old new answer (readingOf new) e
 zero-old old new answer (refusal f n) e = absurd (some-number f e)
 
@@ -67,7 +67,7 @@ module _ (old new answer : Text) (work : List ℕ) (room : 1024 ≤ length answe
 
   leaves : left ≡ answerFor (comparedOld old new (readingOf old)) answer
   unfolding answerAfter
-  leaves = o .answered ∙ ap (λ (d : Compared). answerFor d answer) roomy
+  leaves = o .buffer ∙ ap (λ (d : Compared). answerFor d answer) roomy
 
   number-of : c .report .number ≡ comparisonFor (comparedOld old new (readingOf old)) .report .number
   number-of = ap (λ (x : Comparison). x .report .number) handed

@@ -9,10 +9,10 @@ ghost use Rattle.text.specs.Texts.{tab};
 ghost use Rattle.compare.specs.Printed.{decimal, whereText, refusalLine, written, PrintOutcome};
 use comparing::comparer;
 
-// Puts a tab and a number at a place, and hands back the place behind it.
+// Puts a tab and a number at an offset, and hands back the offset behind it.
 fn put_field(text: &mut [u8], at: usize, n: u32) -> usize
     requires { ⌜ at ≤ 1000 ⌝ }
-    ensures place { λ r. ⌜ r ≡ at + length (tab ∷ decimal n) ⌝ }
+    ensures offset { λ r. ⌜ r ≡ at + length (tab ∷ decimal n) ⌝ }
     ensures bytes { λ _. ⌜ now (text .exit) ≡ sets (now (text .entry)) at (tab ∷ decimal n) ⌝ }
     ensures size { λ r. ⌜ r ≤ at + 11 ⌝ }
 {
@@ -20,10 +20,10 @@ fn put_field(text: &mut [u8], at: usize, n: u32) -> usize
     writing::put_digits(text, a, n as usize, 10)
 }
 
-// Puts the two last fields of a refusal's line and its byte 10 at a place, and hands back the place behind them.
+// Puts the two last fields of a refusal's line and its byte 10 at an offset, and hands back the offset behind them.
 fn put_where(text: &mut [u8], at: usize, side: u32, line: u32) -> usize
     requires { ⌜ at ≤ 100 ⌝ }
-    ensures place { λ r. ⌜ r ≡ at + length (whereText side line) ⌝ }
+    ensures offset { λ r. ⌜ r ≡ at + length (whereText side line) ⌝ }
     ensures bytes { λ _. ⌜ now (text .exit) ≡ sets (now (text .entry)) at (whereText side line) ⌝ }
 {
     let a = put_field(text, at, side);

@@ -218,7 +218,7 @@ module _ (old new answer : Text) (w : List ℕ) (x : Comparison) where
   unfolding comparisonOf answerAfter compared workAfter
   compare-short b is y e =
       let h = too-short w b is y in
-      record { handed = rw (lt-ltb _ _ h) e; answered = rw (lt-ltb _ _ h); worked = rw (lt-ltb _ _ h) }
+      record { handed = rw (lt-ltb _ _ h) e; buffer = rw (lt-ltb _ _ h); worked = rw (lt-ltb _ _ h) }
 
   module _ (b : Bool) (is : b ≡ isShort w) (n : b ≡ false) (w′ : List ℕ) where
     long : 4096 ≤ length w
@@ -227,7 +227,7 @@ module _ (old new answer : Text) (w : List ℕ) (x : Comparison) where
     -- the answer buffer is
     pub compare-small : length answer < 1024 → x ≡ record { report = report 14 0 0; length = 0 } → w′ ≡ zeroed 4096 w → CompareOutcome old new answer w x answer w′
     unfolding comparisonOf answerAfter compared workAfter
-    compare-small h e z = record { handed = rw (le-ltb _ _ long, lt-ltb _ _ h) e; answered = rw (le-ltb _ _ long, lt-ltb _ _ h); worked = rw (le-ltb _ _ long) z }
+    compare-small h e z = record { handed = rw (le-ltb _ _ long, lt-ltb _ _ h) e; buffer = rw (le-ltb _ _ long, lt-ltb _ _ h); worked = rw (le-ltb _ _ long) z }
 
     -- neither is
     pub compare-long : (answer′ : Text) → 1024 ≤ length answer
@@ -235,4 +235,4 @@ module _ (old new answer : Text) (w : List ℕ) (x : Comparison) where
         → CompareOutcome old new answer w x answer′ w′
     unfolding comparisonOf answerAfter compared workAfter
     compare-long answer′ h p =
-        record { handed = rw (le-ltb _ _ long, le-ltb _ _ h) (p .0); answered = rw (le-ltb _ _ long, le-ltb _ _ h) (p .1 .0); worked = rw (le-ltb _ _ long) (p .1 .1) }
+        record { handed = rw (le-ltb _ _ long, le-ltb _ _ h) (p .0); buffer = rw (le-ltb _ _ long, le-ltb _ _ h) (p .1 .0); worked = rw (le-ltb _ _ long) (p .1 .1) }

@@ -52,8 +52,8 @@ heard-exactly old new answer work = (go (isShort work) (isSmall answer) (reading
 
 pub comparison-definite : EveryComparisonIsDefinite
 comparison-definite = record {
-  answered = λ old new answer work.
-      (comparisonOf old new answer work, answerAfter old new answer work, workAfter work, record { handed = refl; answered = refl; worked = refl });
+  outcome = λ old new answer work.
+      (comparisonOf old new answer work, answerAfter old new answer work, workAfter work, record { handed = refl; buffer = refl; worked = refl });
   definite = definite;
 }
   where
@@ -70,7 +70,7 @@ comparison-definite = record {
           settled = λ c′ left′ workLeft′ P. compare-unique old new answer work c c′ left left′ workLeft workLeft′ O P;
           alike = λ work′ c′ left′ workLeft′ h h′ P.
               let same = table-never-matters old new answer work work′ h h′ in
-              (O .handed ∙ same .0 ∙ sym (P .handed), O .answered ∙ same .1 ∙ sym (P .answered));
+              (O .handed ∙ same .0 ∙ sym (P .handed), O .buffer ∙ same .1 ∙ sym (P .buffer));
           row = λ q. (λ e. refuses q .0 (sym reported ∙ e), λ f. reported ∙ refuses q .1 f);
           ruleOfOld = λ f n. (λ e. ofOld f n .0 (sym reported ∙ e), λ b. reported ∙ ofOld f n .1 b);
           ruleOfNew = λ f n. (λ e. ofNew f n .0 (sym reported ∙ e), λ b. reported ∙ ofNew f n .1 b);

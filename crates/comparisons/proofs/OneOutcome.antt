@@ -13,7 +13,7 @@ use Rattle.comparisons.specs.Outcomes.{compared, comparisonOf, answerAft
 -- in all components
 pub compare-unique : (old new answer : Text) (work : List ℕ) (c c′ : Comparison) (a a′ : Text) (w w′ : List ℕ)
     → CompareOutcome old new answer work c a w → CompareOutcome old new answer work c′ a′ w′ → (c ≡ c′) × (a ≡ a′) × (w ≡ w′)
-compare-unique old new answer work c c′ a a′ w w′ o o′ = (o .handed ∙ sym (o′ .handed), o .answered ∙ sym (o′ .answered), o .worked ∙ sym (o′ .worked))
+compare-unique old new answer work c c′ a a′ w w′ o o′ = (o .handed ∙ sym (o′ .handed), o .buffer ∙ sym (o′ .buffer), o .worked ∙ sym (o′ .worked))
 
 -- what stood in the work table's first 4,096 numbers never matters
 pub contents-never-matter : (old new answer : Text) (w w′ : List ℕ) → workSize ≤ length w → length w ≡ length w′ → drop workSize w ≡ drop workSize w′

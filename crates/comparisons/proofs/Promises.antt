@@ -39,7 +39,7 @@ module _ (old new answer : Text) (work : List ℕ) (c : Comparison) (left : Text
   -- with a refusal the answer buffer doesn't change and the length is 0
   pub refusal-writes-nothing : (1 ≤ c .report .number) → (left ≡ answer) × (c .length ≡ 0)
   unfolding comparisonOf answerAfter
-  refusal-writes-nothing h = go (compared old new answer work) (O .handed) (O .answered)
+  refusal-writes-nothing h = go (compared old new answer work) (O .handed) (O .buffer)
     where
       go : (x : Compared) → c ≡ comparisonFor x → left ≡ answerFor x answer → (left ≡ answer) × (c .length ≡ 0)
       go (refusedFor number side line) e f = (f, ap (λ (d : Comparison). d .length) e)
@@ -56,7 +56,7 @@ module _ (old new answer : Text) (work : List ℕ) (c : Comparison) (left : Text
 
     left-is : left ≡ text ++ drop (length text) answer
     unfolding answerAfter
-    left-is = O .answered ∙ ap (λ (x : Compared). answerFor x answer) is-answered
+    left-is = O .buffer ∙ ap (λ (x : Compared). answerFor x answer) is-answered
 
     handed-is : c ≡ comparisonFor (answered text)
     unfolding comparisonOf

@@ -15,7 +15,7 @@ use Rattle.listings.specs.declared.answers.Fault.{Fault}
 use Rattle.listings.specs.declared.answers.Report.{Report}
 use Rattle.reading.specs.Rows.{FirstGiven, FirstBroken}
 use Rattle.reading.specs.Demands.{TableLeft}
-use Rattle.decisions.specs.Requests.{Caller, nobody, holder, Request}
+use Rattle.decisions.specs.Requests.{Caller, nobody, loggedIn, Request}
 use Rattle.deciding.specs.Outcomes.{Asked, asked, isGranted, DecideOutcome}
 use Rattle.deciding.specs.Demands.{Denied}
 use Rattle.deciding.specs.declared.answers.Decision.{Decision}
@@ -49,7 +49,7 @@ pub record DefiniteComparison (old new answer : Text) (work : List ℕ) (c : Com
 
 -- whatever the listings, the buffer and the work table, there is an outcome, and every outcome is definite
 pub record EveryComparisonIsDefinite : Type 0 where
-  pub answered : (old new answer : Text) (work : List ℕ)
+  pub outcome : (old new answer : Text) (work : List ℕ)
       → (c : Comparison) × (left : Text) × (workLeft : List ℕ) × CompareOutcome old new answer work c left workLeft
   pub definite : (old new answer : Text) (work : List ℕ) (c : Comparison) (left : Text) (workLeft : List ℕ)
       → CompareOutcome old new answer work c left workLeft → DefiniteComparison old new answer work c left workLeft
@@ -69,7 +69,7 @@ NothingGained old new =
 -- a request as deciding is asked it: the caller's login number, and his names, "each ended by byte 10"
 abbrev pub loginOf : Caller → ℕ
 loginOf nobody = 0
-loginOf (holder ns) = 1
+loginOf (loggedIn ns) = 1
 
 unfoldable pub ended : List Text → Text
 ended [] = []
@@ -77,7 +77,7 @@ ended (n ∷ ns) = n ++ newline ∷ ended ns
 
 abbrev pub namesOf : Caller → Text
 namesOf nobody = []
-namesOf (holder ns) = ended ns
+namesOf (loggedIn ns) = ended ns
 
 unfoldable pub askedFor : Text → Request → Asked
 unfolding ended

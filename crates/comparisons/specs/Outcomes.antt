@@ -68,5 +68,5 @@ answerAfter old new answer work = answerFor (compared old new answer work) answe
 -- the whole outcome of the call, with the answer buffer and the work table before it: what is handed back, and both after it
 pub record CompareOutcome (old new answer : Text) (work : List ℕ) (comparison : Comparison) (answerLeft : Text) (workLeft : List ℕ) : Type 0 where
   pub handed : comparison ≡ comparisonOf old new answer work
-  pub answered : answerLeft ≡ answerAfter old new answer work
+  pub buffer : answerLeft ≡ answerAfter old new answer work
   pub worked : workLeft ≡ workAfter work

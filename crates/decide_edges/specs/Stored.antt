@@ -4,10 +4,10 @@ use Prim.Native.Nat.{ℕ, _+_, _*_}
 use mathlib.Core.List.{List}
 use lib.ListN.{getD}
 
--- the number that two bytes from place i on make, a missing one being 0
+-- the number that two bytes from offset i on make, a missing one being 0
 abbrev pub twoAt : List ℕ → ℕ → ℕ
 twoAt s i = getD s i 0 + getD s (i + 1) 0 * 256
 
--- the number that four bytes from place i on make
+-- the number that four bytes from offset i on make
 abbrev pub fourAt : List ℕ → ℕ → ℕ
 fourAt s i = twoAt s i + twoAt s (i + 2) * 65536

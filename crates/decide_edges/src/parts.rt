@@ -4,14 +4,14 @@ ghost use Prim.Native.Nat.{_+_, _≤_, _<_, min};
 ghost use lib.ListN.{length, getD};
 ghost use Rattle.decide_edges.specs.Stored.{twoAt, fourAt};
 
-// The byte at place i, and 0 where there is none.
+// The byte at offset i, and 0 where there is none.
 pub fn byte_at(s: &[u8], i: usize) -> u8
     ensures { λ r. ⌜ r ≡ getD (now (s .entry)) i 0 ⌝ }
 {
     if i < s.len() { s[i] } else { 0 }
 }
 
-// The number that two bytes from place i on make.
+// The number that two bytes from offset i on make.
 pub fn two_at(s: &[u8], i: usize) -> usize
     requires { ⌜ i < 12 ⌝ }
     ensures { λ r. ⌜ r ≡ twoAt (now (s .entry)) i ⌝ }
@@ -20,7 +20,7 @@ pub fn two_at(s: &[u8], i: usize) -> usize
     byte_at(s, i) as usize + byte_at(s, i + 1) as usize * 256
 }
 
-// The number that four bytes from place i on make.
+// The number that four bytes from offset i on make.
 pub fn four_at(s: &[u8], i: usize) -> u32
     requires { ⌜ i < 10 ⌝ }
     ensures { λ r. ⌜ r ≡ fourAt (now (s .entry)) i ⌝ }

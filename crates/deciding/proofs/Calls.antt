@@ -32,19 +32,19 @@ use Rattle.decisions.specs.Requests.{Caller, isPath, callerOf}
 use Rattle.decisions.specs.Decisions.{answerNumber}
 use Rattle.deciding.specs.Outcomes.{refused, answered, asked, decideCaller, decideRequest, decideListing, decisionOf, DecideOutcome}
 use Rattle.matching.specs.Strengths.{leading}
-use Rattle.callers.specs.Holdings.{heldBy}
+use Rattle.callers.specs.RoleSets.{checkCaller}
 use Rattle.deciding.specs.Joinings.{joinedUpTo, joinedAnswer}
 use Rattle.deciding.specs.Deciders.{answerFor}
 use Rattle.decisions.specs.declared.answers.Answer.{Answer}
 use Rattle.decisions.specs.declared.answers.Answer.the-variants.{Open}
 use Rattle.deciding.specs.declared.answers.Decision.{Decision}
-use Rattle.callers.specs.declared.Held.{Held}
-use Rattle.callers.specs.declared.Held.the-variants.{Bad, Good}
+use Rattle.callers.specs.declared.Checked.{Checked}
+use Rattle.callers.specs.declared.Checked.the-variants.{Bad, Good}
 use Rattle.callers.specs.declared.Who.{Who}
 use Rattle.deciding.specs.declared.joining.Joined.{Joined}
 use Rattle.matching.specs.declared.Leading.{Leading}
 use Rattle.matching.proofs.Strengths.{leads}
-use Rattle.callers.proofs.Holders.{whoAs, held-bad, held-good}
+use Rattle.callers.proofs.Checks.{whoAs, checked-bad, checked-good}
 use Rattle.deciding.proofs.Joins.{answer-for}
 use Rattle.text.proofs.Indices.{index-bound}
 
@@ -56,7 +56,7 @@ pub answered-whole : (n : ℕ) (x : Report) → x ≡ report 0 0 0 → record { 
 answered-whole n x e = ap (λ (r : Report). record { report = r; answer = n }) e
 
 -- ---- the answer for a path and a method
--- a method has its place or none: their number is small
+-- a method has its index or none: their number is small
 pub method-near : (s : Text) (t : Tally) (w : List ℕ) (m : Text) (i : ℕ) → Holds s t w → i ≡ indexOf m (viewAt s t w .methods) → i < 32
 method-near s t w m i H e = omega (arith, index-bound m (viewAt s t w .methods), H .proper .few-methods)
 
@@ -92,12 +92,12 @@ path-good path p e h = sym e ∙ not-false p h
 
 module _ (v : View) (path m : Text) (h : Who) (a : Answer) where
   -- without a `;` it is its own dropped path
-  pub unmarked-answer : (b : Bool) → b ≡ has semicolon path → not b ≡ true → a ≡ answerFor v path m h → a ≡ answerFor v (dropped path) m h
-  unmarked-answer b e n f = f ∙ ap (λ (p : Text). answerFor v p m h) (sym (dropped-none path (sym e ∙ not-true b n)))
+  pub answer-without : (b : Bool) → b ≡ has semicolon path → not b ≡ true → a ≡ answerFor v path m h → a ≡ answerFor v (dropped path) m h
+  answer-without b e n f = f ∙ ap (λ (p : Text). answerFor v p m h) (sym (dropped-none path (sym e ∙ not-true b n)))
 
   -- else the buffer has that
-  pub marked-answer : (kept : Text) (n : ℕ) → take n kept ≡ dropped path → a ≡ answerFor v (take n kept) m h → a ≡ answerFor v (dropped path) m h
-  marked-answer kept n e f = f ∙ ap (λ (p : Text). answerFor v p m h) e
+  pub answer-with : (kept : Text) (n : ℕ) → take n kept ≡ dropped path → a ≡ answerFor v (take n kept) m h → a ≡ answerFor v (dropped path) m h
+  answer-with kept n e f = f ∙ ap (λ (p : Text). answerFor v p m h) e
 
 -- ---- a request
 module _ (s path method names : Text) (login : ℕ) (p : Bool) (on-path : p ≡ isPath path) (d : Decision) where
@@ -110,7 +110,7 @@ module _ (s path method names : Text) (login : ℕ) (p : Bool) (on-path : p ≡ 
     pub method-refused : not q ≡ true → d ≡ refused 12 0 0 → d ≡ decideRequest (asked s path method login names)
     method-refused n e = rw (← on-path, not-false p right, ← on-method, not-true q n) e
 
-    module _ (h : Held) (named : not q ≡ false) (t : Tally) (w : List ℕ) (on-caller : h ≡ heldBy (viewAt s t w) login names) where
+    module _ (h : Checked) (named : not q ≡ false) (t : Tally) (w : List ℕ) (on-caller : h ≡ checkCaller (viewAt s t w) login names) where
       -- what is decided of the caller is decided of the request
       by-caller : d ≡ decideCaller (asked s path method login names) (callerOf login names) → d ≡ decideRequest (asked s path method login names)
       by-caller e = rw (← on-path, not-false p right, ← on-method, not-false q named) e
@@ -118,7 +118,7 @@ module _ (s path method names : Text) (login : ℕ) (p : Bool) (on-path : p ≡ 
       module _ (H : HoldsListing s t w) where
         -- the caller is bad where there is none
         bad-none : (h ≡ Bad) ↔ (callerOf login names ≡ none)
-        bad-none = rw on-caller (held-bad (viewAt s t w) (H .holds .proper .few-roles) (H .holds .proper .roles-once) login names)
+        bad-none = rw on-caller (checked-bad (viewAt s t w) (H .holds .proper .few-roles) (H .holds .proper .roles-once) login names)
 
         -- the caller is bad
         pub caller-refused : h ≡ Bad → d ≡ refused 13 0 0 → d ≡ decideRequest (asked s path method login names)
@@ -134,7 +134,7 @@ module _ (s path method names : Text) (login : ℕ) (p : Bool) (on-path : p ≡ 
             go (some k) c =
                 let roles = H .holds .proper in
                 r ∙ ap answered (f ∙ ap answerNumber (e
-                ∙ ap (answerFor (viewAt s t w) (dropped path) method) (held-good (viewAt s t w) (roles .few-roles) (roles .roles-once) login names k who c (sym on-caller ∙ g))
+                ∙ ap (answerFor (viewAt s t w) (dropped path) method) (checked-good (viewAt s t w) (roles .few-roles) (roles .roles-once) login names k who c (sym on-caller ∙ g))
                 ∙ ap (λ (v : View). answerFor v (dropped path) method (whoAs v k)) (H .view)
                 ∙ answer-for (listingOf s) (accepted-proper s (H .accepts)) path method k))
 

@@ -22,7 +22,7 @@ use Rattle.deciding.proofs.Exactly.{decide-refused-exactly, decide-list
 
 -- ---- demand 1
 pub decision-definite : EveryDecisionIsDefinite
-decision-definite = record { answered = λ a w. (decisionOf a w, workAfter w, record { decision = refl; work = refl }); definite = definite }
+decision-definite = record { outcome = λ a w. (decisionOf a w, workAfter w, record { decision = refl; work = refl }); definite = definite }
   where
     definite : (a : Asked) (w : List ℕ) (d : Decision) (left : List ℕ) → DecideOutcome a w d left → DefiniteDecision a w d left
     definite a w d left O =

@@ -30,7 +30,7 @@ use Rattle.entries.proofs.Digits.{set-same, digit-set, set-or, set-none}
 use Rattle.reading.proofs.Viewings.{texts-of, cover-of, access-of}
 use Rattle.decisions.specs.Matching.{best}
 use Rattle.decisions.specs.Paths.{dropped}
-use Rattle.decisions.specs.Requests.{Caller, nobody, holder, request}
+use Rattle.decisions.specs.Requests.{Caller, nobody, loggedIn, request}
 use Rattle.decisions.specs.Combining.{Access, closed, free, roles, join, neutral, anyOf, rolesOf, accessOf}
 use Rattle.decisions.specs.Decisions.{nothingTaken, combinedAt, combinedFor, answerTo, decide}
 use Rattle.decisions.specs.Gatherings.{isFor, Gathered, nothingGathered, withLine, gathered}
@@ -43,7 +43,7 @@ use Rattle.deciding.specs.Joinings.{nothingJoined, joinWith, isLineFor, 
 use Rattle.deciding.specs.Deciders.{answerFor}
 use Rattle.deciding.specs.declared.joining.Joined.{Joined}
 use Rattle.matching.proofs.Strengths.{best-line-some, best-line-none}
-use Rattle.callers.proofs.Holders.{whoAs, held-meets}
+use Rattle.callers.proofs.Checks.{whoAs, role-set-meets}
 
 -- ---- digits
 -- a name that is no method of the listing is none of those of a collection
@@ -57,7 +57,7 @@ module _ (l : Listing) (P : Proper l) (m : Text) where
   unfolding isMethodName
   nameless = not-so (member [] (l .methods)) (λ e. never (isMethodName []) (P .good-methods [] e) refl)
 
-  -- a line covers a method as it covers the one at its place, which is none where the method is not named
+  -- a line covers a method as it covers the one at its index, which is none where the method is not named
   covers-at : (r : PatternLine) → List·Memᴰ r (patternLinesOf l) → covers (r .collection) (getD (l .methods) (indexOf m (l .methods)) []) ≡ covers (r .collection) m
   unfolding covers
   covers-at r i = go (decLt (indexOf m (l .methods)) (length (l .methods)))
@@ -74,7 +74,7 @@ module _ (l : Listing) (P : Proper l) (m : Text) where
             unlisted l (r .collection .methods) (P .methods-listed r i) m q,
           )
 
-  -- so the digit at the method's place says whether the line covers it
+  -- so the digit at the method's index says whether the line covers it
   covers-digit : (r : PatternLine) → List·Memᴰ r (patternLinesOf l) → eqb (digit (indexOf m (l .methods)) (W.coverSet l (r .collection))) 1 ≡ covers (r .collection) m
   unfolding W.coverSet
   covers-digit r i =
@@ -106,7 +106,7 @@ line-listed [] k h = absurd (omega arith)
 line-listed (r ∷ rs) zero h = List·Memᴰ·head refl
 line-listed (r ∷ rs) (suc k) h = List·Memᴰ·tail (line-listed rs k (omega arith))
 
--- what is mapped over a list stands at its places, whatever would stand behind them
+-- what is mapped over a list stands at its indices, whatever would stand behind them
 map-at : {A B : Type 0} (f : A → B) (xs : List A) (k : ℕ) (d : A) (z : B) → k < length xs → getD (map f xs) k z ≡ f (getD xs k d)
 map-at f [] k d z h = absurd (omega arith)
 map-at f (x ∷ xs) zero d z h = refl
@@ -304,7 +304,7 @@ module _ (l : Listing) (P : Proper l) where
   roles-answer : (f : Text → Bool) → Listed l f → (c : Caller) → J.roleAnswer (rolesThat l f) (whoAs (viewOf l) c) ≡ answerTo (roles f) c
   unfolding answerTo viewOf
   roles-answer f named nobody = refl
-  roles-answer f named (holder ns) = rw (held-meets (viewOf l) (P .few-roles) f named ns) (go (anyOf f ns))
+  roles-answer f named (loggedIn ns) = rw (role-set-meets (viewOf l) (P .few-roles) f named ns) (go (anyOf f ns))
     where
       go : (b : Bool) → cond (not b) RoleLacking ByRole ≡ cond b ByRole RoleLacking
       go true = refl

@@ -13,17 +13,17 @@ use Rattle.text.specs.Lines.{Line, linesOf}
 use Rattle.listings.specs.Refusals.{Reading, accepted, refusal, readingOf}
 use Rattle.worktable.specs.Work.{workSize, isShort, workAfter}
 use Rattle.reading.proofs.Unique.{work-same}
-use Rattle.decisions.specs.Requests.{Caller, nobody, holder, allHeld, mostNames, namesIn, holderOf, callerOf, isPath, isMethod, Extends}
+use Rattle.decisions.specs.Requests.{Caller, nobody, loggedIn, allEndedNames, mostNames, namesIn, loggedInWith, callerOf, isPath, isMethod, Extends}
 use Rattle.deciding.specs.Outcomes.{refused, answered, isGranted, Asked, decideCaller, decideListing, decisionOf, DecideOutcome}
 use Rattle.deciding.specs.declared.answers.Decision.{Decision}
 
 -- ---- who logs in, or names further roles, is a caller who extends the first
 -- of a caller: the lines' names, or nobody
-holder-names : (ls : List Line) (c : Caller) → holderOf ls ≡ some c → c ≡ holder (namesIn ls)
-holder-names ls c e = go (allHeld ls && leb (length ls) mostNames) e
+logged-in-names : (ls : List Line) (c : Caller) → loggedInWith ls ≡ some c → c ≡ loggedIn (namesIn ls)
+logged-in-names ls c e = go (allEndedNames ls && leb (length ls) mostNames) e
   where
-    go : (b : Bool) → cond b (some (holder (namesIn ls))) none ≡ some c → c ≡ holder (namesIn ls)
-    go true h = sym (Option·some-injective (holder (namesIn ls)) c h)
+    go : (b : Bool) → cond b (some (loggedIn (namesIn ls))) none ≡ some c → c ≡ loggedIn (namesIn ls)
+    go true h = sym (Option·some-injective (loggedIn (namesIn ls)) c h)
     go false h = absurd (Option·none-ne-some c h)
 
 pub callers-extend : (login login′ : ℕ) (names names′ : Text) (c d : Caller) → callerOf login names ≡ some c → callerOf login′ names′ ≡ some d
@@ -32,7 +32,7 @@ unfolding callerOf
 callers-extend zero login′ [] names′ c d e f h i = rw (← Option·some-injective nobody c e) tt
 callers-extend zero login′ (x ∷ xs) names′ c d e f h i = absurd (Option·none-ne-some c e)
 callers-extend (suc zero) zero names names′ c d e f h i = absurd (omega arith)
-callers-extend (suc zero) (suc zero) names names′ c d e f h i = rw (holder-names (linesOf names) c e, holder-names (linesOf names′) d f) i
+callers-extend (suc zero) (suc zero) names names′ c d e f h i = rw (logged-in-names (linesOf names) c e, logged-in-names (linesOf names′) d f) i
 callers-extend (suc zero) (suc (suc k)) names names′ c d e f h i = absurd (Option·none-ne-some d f)
 callers-extend (suc (suc k)) login′ names names′ c d e f h i = absurd (Option·none-ne-some c e)
 

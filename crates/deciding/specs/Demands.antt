@@ -40,7 +40,7 @@ pub record DefiniteDecision (a : Asked) (w : List ℕ) (d : Decision) (left : Li
 
 -- whatever is asked and whatever the work table, there is an outcome, and every outcome is definite
 pub record EveryDecisionIsDefinite : Type 0 where
-  pub answered : (a : Asked) (w : List ℕ) → (d : Decision) × (left : List ℕ) × DecideOutcome a w d left
+  pub outcome : (a : Asked) (w : List ℕ) → (d : Decision) × (left : List ℕ) × DecideOutcome a w d left
   pub definite : (a : Asked) (w : List ℕ) (d : Decision) (left : List ℕ) → DecideOutcome a w d left → DefiniteDecision a w d left
 
 -- ---- demand 2

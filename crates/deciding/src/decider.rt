@@ -14,7 +14,7 @@ ghost use Rattle.deciding.specs.Outcomes.{refused, answered, asked, Deci
 ghost use Rattle.deciding.specs.Deciders.{answerFor};
 use crate::answers::Decision;
 use crate::joining;
-use callers::Held;
+use callers::Checked;
 use callers::Who;
 use decisions::answers;
 use decisions::answers::Answer;
@@ -101,8 +101,8 @@ pub fn decide_held(
     }
     let h = callers::caller(&table, s, w, t, login, names);
     match h {
-        Held::Bad => refuse(BAD_CALLER, 0, 0),
-        Held::Good(who) => {
+        Checked::Bad => refuse(BAD_CALLER, 0, 0),
+        Checked::Good(who) => {
             let a = answer_for(s, w, t, path, method, who);
             tell(answers::number(a))
         }

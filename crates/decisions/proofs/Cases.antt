@@ -1,4 +1,4 @@
--- 01's worked requests 1 to 11, requests with session marks, and 01's bad callers, as tables that antt computes from the bytes of the listings and of the callers' names.
+-- 01's worked requests 1 to 11, requests with parameters in their paths, and 01's bad callers, as tables that antt computes from the bytes of the listings and of the callers' names.
 use mathlib.Core.Path.{_≡_, refl}
 use mathlib.Core.List.{[], _∷_, _++_, map}
 use mathlib.Core.Option.{none, some}
@@ -8,9 +8,9 @@ use Rattle.listings.specs.Records.{namesRole}
 use Rattle.names.specs.Names.{isRoleName}
 use Rattle.listings.specs.Listings.{listingOf}
 use Rattle.decisions.specs.Paths.{dropped}
-use Rattle.decisions.specs.Requests.{nobody, holder, callerOf}
+use Rattle.decisions.specs.Requests.{nobody, loggedIn, callerOf}
 use Rattle.decisions.specs.Decisions.{decide}
-use Rattle.decisions.specs.Worked.{listingL, undeclared, asked, answers, lastAsked, received, leftOver, endings, gets, markedAnswers, endingAnswers}
+use Rattle.decisions.specs.Worked.{listingL, undeclared, asked, answers, lastAsked, received, leftOver, endings, gets, parameterAnswers, endingAnswers}
 use Rattle.decisions.specs.declared.answers.Answer.the-variants.{ByRole}
 
 pub worked-requests : map (decide (listingOf listingL)) asked ≡ answers
@@ -21,18 +21,18 @@ pub worked-11 : decide (listingOf undeclared) lastAsked ≡ ByRole
 unfolding undeclared lastAsked namesRole decide listingOf
 worked-11 = refl
 
--- 02: "The gateway hands us `/clock/offset;s=12`", which gets its exact pattern, and marks in other places
-pub session-marks-dropped : map dropped received ≡ leftOver
+-- 02: "The gateway hands us `/clock/offset;s=12`", which gets its exact pattern, and parameters elsewhere
+pub parameters-dropped : map dropped received ≡ leftOver
 unfolding received leftOver dropped
-session-marks-dropped = refl
+parameters-dropped = refl
 
-pub session-marks : map (decide (listingOf listingL)) (gets received) ≡ markedAnswers
-unfolding listingL received markedAnswers namesRole decide listingOf
-session-marks = refl
+pub parameters-decided : map (decide (listingOf listingL)) (gets received) ≡ parameterAnswers
+unfolding listingL received parameterAnswers namesRole decide listingOf
+parameters-decided = refl
 
-pub session-marks-behind-a-dot : map (decide (listingOf endings)) (gets received) ≡ endingAnswers
+pub parameters-behind-a-dot : map (decide (listingOf endings)) (gets received) ≡ endingAnswers
 unfolding endings received endingAnswers namesRole decide listingOf
-session-marks-behind-a-dot = refl
+parameters-behind-a-dot = refl
 
 -- eight names
 abbrev eight : Text
@@ -49,6 +49,6 @@ bad-callers = refl
 -- and good ones: nobody, no role, two roles, 32 names
 pub good-callers :
     callerOf 0 [] ∷ callerOf 1 [] ∷ callerOf 1 (bytes "a\nb c\n") ∷ []
-    ≡ some nobody ∷ some (holder []) ∷ some (holder (bytes "a" ∷ bytes "b c" ∷ [])) ∷ []
+    ≡ some nobody ∷ some (loggedIn []) ∷ some (loggedIn (bytes "a" ∷ bytes "b c" ∷ [])) ∷ []
 unfolding callerOf isRoleName isText
 good-callers = refl

@@ -44,7 +44,7 @@ dropped-none t h = ap (λ (u : Text). leftOf false u) (sym (append-nil t)) ∙ l
 pub drops-parameters : DropsParameters
 unfolding dropped leftOf
 drops-parameters = record {
-  unmarked = dropped-none;
+  untouched = dropped-none;
   segment = λ s p t h k. left-before s (semicolon ∷ (p ++ slash ∷ t)) h ∙ ap (λ (u : Text). s ++ u) (left-behind p (slash ∷ t) k);
   last = λ s p h k.
       left-before s (semicolon ∷ p) h
@@ -72,21 +72,21 @@ kept-other b x h = go (eqb slash x) (eqb semicolon x) refl refl h
     go true false p q e = refl
     go false s p q e = or-right b s e
 
-left-unmarked : (b : Bool) (t : Text) → has semicolon (leftOf b t) ≡ false
+left-without : (b : Bool) (t : Text) → has semicolon (leftOf b t) ≡ false
 unfolding has leftOf
-left-unmarked b [] = refl
-left-unmarked b (x ∷ xs) = go (isDropped b x) refl (left-unmarked (isDropped b x) xs)
+left-without b [] = refl
+left-without b (x ∷ xs) = go (isDropped b x) refl (left-without (isDropped b x) xs)
   where
     go : (d : Bool) → isDropped b x ≡ d → has semicolon (leftOf d xs) ≡ false → has semicolon (cond d [] (x ∷ []) ++ leftOf d xs) ≡ false
     go true e h = h
     go false e h = rw (kept-other b x e) h
 
-pub dropped-unmarked : (path : Text) → has semicolon (dropped path) ≡ false
+pub dropped-without : (path : Text) → has semicolon (dropped path) ≡ false
 unfolding dropped
-dropped-unmarked path = left-unmarked false path
+dropped-without path = left-without false path
 
 -- ---- deciding
 pub answered-as-dropped : (l : Listing) → AnsweredAsDropped l
 unfolding decide
 answered-as-dropped l path method c =
-    ap (λ (p : Text). answerTo (combinedFor l p method) c) (sym (dropped-none (dropped path) (dropped-unmarked path)))
+    ap (λ (p : Text). answerTo (combinedFor l p method) c) (sym (dropped-none (dropped path) (dropped-without path)))

@@ -5,7 +5,7 @@
 --   Unnamed     methods that a listing does not name are alike to it
 --   Bests       matching in plain words, and the best match
 --   Extensions  an extension in plain words
---   Cases       01's worked requests 1 to 11, requests with session marks, and bad callers
+--   Cases       01's worked requests 1 to 11, requests with parameters in their paths, and bad callers
 -- What a loop over the `pattern` lines gathers:
 --   Gatherings  is what the constraints that are taken come to
 -- What they lean on:

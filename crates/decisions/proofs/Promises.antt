@@ -1,4 +1,4 @@
--- What the customer is promised of deciding: a grant is never lost by logging in or by holding further roles, what is not covered is open, and an empty `*` closes nothing.
+-- What the customer is promised of deciding: a grant is never lost by logging in or by having further roles, what is not covered is open, and an empty `*` closes nothing.
 use mathlib.Core.Path.{_≡_, refl, sym, ap, _∙_}
 use mathlib.Core.Bool.{Bool, true, false, not, cond, _&&_, and-false}
 use mathlib.Core.List.{List, [], _∷_, _++_}
@@ -9,7 +9,7 @@ use Rattle.names.specs.Names.{isStar}
 use Rattle.listings.specs.Listings.{Listing, isEmpty, closes}
 use Rattle.listings.specs.Propers.{Proper}
 use Rattle.decisions.specs.Paths.{dropped}
-use Rattle.decisions.specs.Requests.{Caller, nobody, holder, Extends}
+use Rattle.decisions.specs.Requests.{Caller, nobody, loggedIn, Extends}
 use Rattle.decisions.specs.Combining.{Access, closed, free, roles, anyOf, rolesOf}
 use Rattle.decisions.specs.Decisions.{combine, combinedAt, combinedFor, answerTo, decide, isGrant, may, answerNumber, isGrantNumber}
 use Rattle.decisions.specs.Demands.{NeverLoses, UncoveredIsOpen, EmptyStar, RolesNamed}
@@ -24,7 +24,7 @@ by-role true = refl
 by-role false = refl
 
 -- those who hold one of them
-pub roles-grant : (f : Text → Bool) (ns : List Text) → may (roles f) (holder ns) ≡ anyOf f ns
+pub roles-grant : (f : Text → Bool) (ns : List Text) → may (roles f) (loggedIn ns) ≡ anyOf f ns
 unfolding answerTo
 roles-grant f ns = by-role (anyOf f ns)
 
@@ -34,8 +34,8 @@ unfolding answerTo
 access-keeps closed c d e h = h
 access-keeps free c d e h = refl
 access-keeps (roles f) nobody d e h = absurd (never false h refl)
-access-keeps (roles f) (holder ns) nobody e h = absurd e
-access-keeps (roles f) (holder ns) (holder ms) e h = roles-grant f ms ∙ any-more f ns ms e (sym (roles-grant f ns) ∙ h)
+access-keeps (roles f) (loggedIn ns) nobody e h = absurd e
+access-keeps (roles f) (loggedIn ns) (loggedIn ms) e h = roles-grant f ms ∙ any-more f ns ms e (sym (roles-grant f ns) ∙ h)
 
 pub never-loses : (l : Listing) → NeverLoses l
 unfolding decide

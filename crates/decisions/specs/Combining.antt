@@ -11,7 +11,7 @@ pub data Access : Type 0 where
   closed : Access
   -- everyone
   free : Access
-  -- who holds one of the role names that pass: a set of names is its test
+  -- who has one of the role names that pass: a set of names is its test
   roles : (Text → Bool) → Access
 
 -- ---- joining: closed before open, open before roles, and roles are united

@@ -8,7 +8,7 @@ use Rattle.text.specs.Texts.{Text, member}
 use Rattle.listings.specs.Listings.{Collected, Constrained, Listing, covers, patternsOf}
 use Rattle.decisions.specs.Matching.{best}
 use Rattle.decisions.specs.Paths.{dropped}
-use Rattle.decisions.specs.Requests.{Caller, nobody, holder, Request, matched}
+use Rattle.decisions.specs.Requests.{Caller, nobody, loggedIn, Request, matched}
 use Rattle.decisions.specs.Combining.{Access, closed, free, roles, together, anyOf, accessOf}
 use Rattle.decisions.specs.declared.answers.Answer.{Answer}
 use Rattle.decisions.specs.declared.answers.Answer.the-variants.{Open, ByRole, Closed, LoginWanted, RoleLacking}
@@ -51,7 +51,7 @@ unfolding anyOf
 answerTo closed c = Closed
 answerTo free c = Open
 answerTo (roles f) nobody = LoginWanted
-answerTo (roles f) (holder ns) = cond (anyOf f ns) ByRole RoleLacking
+answerTo (roles f) (loggedIn ns) = cond (anyOf f ns) ByRole RoleLacking
 
 -- what a listing answers to a request
 unfoldable pub decide : Listing → Request → Answer

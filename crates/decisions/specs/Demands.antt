@@ -13,17 +13,17 @@ use Rattle.decisions.specs.Decisions.{taken, combinedAt, decide, isGrant
 use Rattle.decisions.specs.declared.answers.Answer.the-variants.{Open}
 
 -- ---- a grant is never lost
--- who logs in, or holds further roles, keeps every grant
+-- who logs in, or has further roles, keeps every grant
 abbrev pub NeverLoses : Listing → Type 0
 NeverLoses l =
     (path method : Text) (c d : Caller) → Extends c d
     → isGrant (decide l (request path method c)) ≡ true → isGrant (decide l (request path method d)) ≡ true
 
--- ---- session marks
+-- ---- parameters in paths
 -- what dropping comes to, segment by segment: a path without `;` stays; before the first `;` everything stays, behind it nothing up to the next `/`, and all segments
 -- behind that one are dropped from in their turn; or nothing up to the end
 pub record DropsParameters : Type 0 where
-  pub unmarked : (t : Text) → has semicolon t ≡ false → dropped t ≡ t
+  pub untouched : (t : Text) → has semicolon t ≡ false → dropped t ≡ t
   pub segment : (s p t : Text) → has semicolon s ≡ false → has slash p ≡ false → dropped (s ++ semicolon ∷ (p ++ slash ∷ t)) ≡ s ++ slash ∷ dropped t
   pub last : (s p : Text) → has semicolon s ≡ false → has slash p ≡ false → dropped (s ++ semicolon ∷ p) ≡ s
 

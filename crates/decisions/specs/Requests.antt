@@ -22,15 +22,15 @@ isMethod m = isMethodName m
 -- ---- the caller: "not logged in (0), or logged in (1) with 0 to 32 role names, each ended by byte 10 in one lent text"
 pub data Caller : Type 0 where
   nobody : Caller
-  holder : List Text → Caller
+  loggedIn : List Text → Caller
 
 -- a role name that its byte 10 ends; `*` is none
-abbrev pub isHeld : Line → Bool
-isHeld l = l .ended && isRoleName (l .bytes)
+abbrev pub isEndedName : Line → Bool
+isEndedName l = l .ended && isRoleName (l .bytes)
 
-unfoldable pub allHeld : List Line → Bool
-allHeld [] = true
-allHeld (l ∷ ls) = isHeld l && allHeld ls
+unfoldable pub allEndedNames : List Line → Bool
+allEndedNames [] = true
+allEndedNames (l ∷ ls) = isEndedName l && allEndedNames ls
 
 abbrev pub mostNames : ℕ
 mostNames = 32
@@ -40,22 +40,22 @@ abbrev pub namesIn : List Line → List Text
 namesIn ls = map (λ (l : Line). l .bytes) ls
 
 -- the names of a logged-in caller; "a repeated name counts towards the 32 each time"
-abbrev pub holderOf : List Line → Option Caller
-holderOf ls = cond (allHeld ls && leb (length ls) mostNames) (some (holder (namesIn ls))) none
+abbrev pub loggedInWith : List Line → Option Caller
+loggedInWith ls = cond (allEndedNames ls && leb (length ls) mostNames) (some (loggedIn (namesIn ls))) none
 
 -- the caller of a login number and a text of names; none where they are bad
 unfoldable pub callerOf : ℕ → Text → Option Caller
-unfolding allHeld linesOf
+unfolding allEndedNames linesOf
 callerOf zero [] = some nobody
 callerOf zero (x ∷ xs) = none
-callerOf (suc zero) t = holderOf (linesOf t)
+callerOf (suc zero) t = loggedInWith (linesOf t)
 callerOf (suc (suc n)) t = none
 
--- d holds every role that c holds, and may hold further ones; one who is not logged in holds none
+-- d has every role that c has, and may have further ones; one who is not logged in has none
 abbrev pub Extends : Caller → Caller → Type 0
 Extends nobody d = Unit {0}
-Extends (holder ns) nobody = ⊥
-Extends (holder ns) (holder ms) = (n : Text) → List·Memᴰ n ns → List·Memᴰ n ms
+Extends (loggedIn ns) nobody = ⊥
+Extends (loggedIn ns) (loggedIn ms) = (n : Text) → List·Memᴰ n ns → List·Memᴰ n ms
 
 pub record Request : Type 0 where
   pub path : Text
@@ -66,6 +66,6 @@ pub record Request : Type 0 where
 abbrev pub request : Text → Text → Caller → Request
 request path method caller = record { path = path; method = method; caller = caller }
 
--- what of it the patterns are held against: its path without the parameters, whatever the path is as it was received
+-- what of it the patterns are matched with: its path without the parameters, whatever the path is as it was received
 abbrev pub matched : Request → Text
 matched r = dropped (r .path)

@@ -1,7 +1,7 @@
--- 01's "Worked requests" 1 to 11, and requests with session marks: the listings as bytes, and the requests.
+-- 01's "Worked requests" 1 to 11, and requests with parameters in their paths: the listings as bytes, and the requests.
 use mathlib.Core.List.{List, [], _∷_, _++_, map}
 use Rattle.text.specs.Texts.{Text, bytes}
-use Rattle.decisions.specs.Requests.{Caller, nobody, holder, Request, request}
+use Rattle.decisions.specs.Requests.{Caller, nobody, loggedIn, Request, request}
 use Rattle.decisions.specs.declared.answers.Answer.{Answer}
 use Rattle.decisions.specs.declared.answers.Answer.the-variants.{Open, ByRole, Closed, LoginWanted, RoleLacking}
 
@@ -27,7 +27,7 @@ undeclared =
 
 -- one who is logged in with one role
 abbrev pub with : Text → Caller
-with n = holder (n ∷ [])
+with n = loggedIn (n ∷ [])
 
 -- requests 1 to 10, to listing L
 unfoldable pub asked : List Request
@@ -51,7 +51,7 @@ answers = Closed ∷ Open ∷ ByRole ∷ Open ∷ ByRole ∷ Closed ∷ Open ∷
 unfoldable pub lastAsked : Request
 lastAsked = request (bytes "/a/b") (bytes "GET") (with (bytes "adjuster"))
 
--- ---- session marks
+-- ---- parameters in paths
 -- paths as received: 02's own; a `;` in the middle, twice in a segment, empty, after the dot; `/;x`; `;/` first and last
 unfoldable pub received : List Text
 received =
@@ -89,8 +89,8 @@ abbrev pub gets : List Text → List Request
 gets ps = map (λ (p : Text). request p (bytes "GET") nobody) ps
 
 -- listing L's exact pattern wants a login; behind `/clock/` and elsewhere GET is open
-unfoldable pub markedAnswers : List Answer
-markedAnswers = LoginWanted ∷ LoginWanted ∷ LoginWanted ∷ LoginWanted ∷ Open ∷ Open ∷ Open ∷ Open ∷ LoginWanted ∷ []
+unfoldable pub parameterAnswers : List Answer
+parameterAnswers = LoginWanted ∷ LoginWanted ∷ LoginWanted ∷ LoginWanted ∷ Open ∷ Open ∷ Open ∷ Open ∷ LoginWanted ∷ []
 
 -- the other's answers
 unfoldable pub endingAnswers : List Answer

@@ -1,4 +1,4 @@
-// The line that is written for a case: its name, the numbers that the call handed back, and a mark where the work table is not as it has to be.
+// The line that is written for a case: its name, the numbers that the call handed back, and a sign where the work table is not as it has to be.
 use libc::STDOUT_FILENO;
 
 // Writes a space and n.
@@ -15,7 +15,7 @@ pub fn show_start(name: &[u8], number: u32, side: u32, line: u32) {
     show_number(line);
 }
 
-// Ends the line, behind the mark where there has to be one.
+// Ends the line, behind the sign where there has to be one.
 pub fn show_end(is_work_right: bool) {
     if !is_work_right {
         io::write_all(STDOUT_FILENO, b" WORK");

@@ -4,7 +4,7 @@ ghost use Prim.Native.Nat.{_≤_, _<_};
 ghost use lib.ListN.{length};
 ghost use Rattle.edges.specs.Garbage.{garbageAt, garbage, isZero, isKept, isCleared};
 
-// What is put at place i: never 0, and another number at each place.
+// What is put at index i: never 0, and another number at each index.
 pub fn garbage_at(i: usize) -> u32
     requires { ⌜ i < 5000 ⌝ }
     ensures { λ r. ⌜ r ≡ garbageAt i ⌝ }
@@ -24,7 +24,7 @@ pub fn fill(w: &mut [u32])
     }
 }
 
-// Whether w is as it was filled, from place a on.
+// Whether w is as it was filled, from index a on.
 pub fn is_kept(w: &[u32], a: usize) -> bool
     requires { ⌜ length (now w) ≤ 5000 ⌝ }
     ensures { λ r. ⌜ r ≡ isKept a (now (w .entry)) ⌝ }

@@ -22,7 +22,7 @@ use Rattle.listings.specs.declared.answers.Fault.{Fault}
 use Rattle.listings.specs.declared.answers.Fault.the-variants.{WrongPlace, BadName, BadPattern, RoleTwice, PastMost}
 use Rattle.listings.specs.declared.records.Kind.{Kind}
 use Rattle.listings.specs.declared.records.Kind.the-variants.{Role, Constraint, Allow, Collection, Pattern, Method, Omit, End}
-use Rattle.listings.specs.declared.records.Place.the-variants.{AfterOpen, AfterAuth, AfterAllow, AfterMethod, AfterOmit, AfterEnd}
+use Rattle.listings.specs.declared.records.Stage.the-variants.{AfterOpen, AfterAuth, AfterAllow, AfterMethod, AfterOmit, AfterEnd}
 use Rattle.entries.specs.declared.tables.Tally.{Tally}
 use Rattle.entries.specs.declared.steps.Stepped.{Stepped}
 use Rattle.entries.specs.declared.steps.Stepped.the-variants.{Next, Wrong}
@@ -92,14 +92,14 @@ module _ (s : Text) (t : Tally) (w : List ℕ) (a e : ℕ) (d : Field s t w a e)
         → Steps checkConstraint addConstraint s t w a e (Wrong PastMost) left
     constraint-past left most m y g =
         let h : 64 ≤ t .constraints = omega (arith, m) in
-        refused checkConstraint addConstraint s t w a e left PastMost (rw (← good, y, G.count-marks s t w (d .fits), le-leb _ _ h))
+        refused checkConstraint addConstraint s t w a e left PastMost (rw (← good, y, G.count-accesses s t w (d .fits), le-leb _ _ h))
 
     module _ (most : ℕ) (m : most ≡ 64) (y : not b ≡ false) (g : t .constraints < most) (o : Bool) (is : o ≡ same (part a e s) (bytes "open")) where
       few-constraints : t .constraints < 64
       few-constraints = omega (arith, m)
 
       constraint-room : none ≡ checkConstraint (tablesAt s t w) (part a e s)
-      constraint-room = rw (← good, y, G.count-marks s t w (d .fits), lt-leb _ _ few-constraints)
+      constraint-room = rw (← good, y, G.count-accesses s t w (d .fits), lt-leb _ _ few-constraints)
 
       pub constraint-open : (r : Tally) (left : List ℕ) → left ≡ set (set w (581 + t .constraints) 0) (651 + t .constraints) 0
           → r ≡ tallyConstraint t AfterOpen → o ≡ true → Steps checkConstraint addConstraint s t w a e (Next r) left
@@ -232,7 +232,7 @@ module _ (s : Text) (t : Tally) (w : List ℕ) (a e : ℕ) (d : Field s t w a e)
       unfolding tablesAt
       new-room k h = rw (← good, y, lt-leb _ _ few-lines, G.count-methods s t w (d .fits), ← q, le-ltb _ _ k, lt-leb _ _ h)
 
-      module _ (r : Tally) (left : List ℕ) (fresh : Bool) (first : fresh ≡ isFirstMethod (t .place)) where
+      module _ (r : Tally) (left : List ℕ) (fresh : Bool) (first : fresh ≡ isFirstMethod (t .stage)) where
         pub method-known : left ≡ set w (448 + t .collections) (withMember (cond fresh 0 (getD w (448 + t .collections) 0)) i)
             → r ≡ tallyLine t AfterMethod → i < t .methods → Steps checkMethod addMethod s t w a e (Next r) left
         method-known l m h =
@@ -299,8 +299,8 @@ pub field-end : (s : Text) (t r : Tally) (w : List ℕ) (a e : ℕ) (k : Kind) �
 unfolding fieldCheck fieldAdd tablesAt
 field-end s t r w a e k d q m = rw (q, m) (record { answer = refl; fits = omega arith })
 
--- ---- in a wrong place, and in its right one
-module _ (s : Text) (t : Tally) (w : List ℕ) (a e : ℕ) (k : Kind) (left : List ℕ) (b : Bool) (good : b ≡ mayFollow (t .place) k) where
+-- ---- in a wrong place, and one that may follow
+module _ (s : Text) (t : Tally) (w : List ℕ) (a e : ℕ) (k : Kind) (left : List ℕ) (b : Bool) (good : b ≡ mayFollow (t .stage) k) where
   pub step-misplaced : not b ≡ true → StepOutcome s (stepFrom (tablesAt s t w) (recordWith k (part a e s))) (Wrong WrongPlace) left
   unfolding stepFrom checkRecord tablesAt
   step-misplaced y = rw (← good, not-true b y) (record { answer = refl; fits = tt })

@@ -11,8 +11,8 @@ use Rattle.listings.specs.Heads.{isFirstMethod}
 use Rattle.entries.specs.Tables.{Tables, Fits, packed, tablesAt, region, textsAt, indexed, addAllowTo, addMethodTo, addRole, addConstraint, addAllow, addCollection, addPattern, addMethod, addOmit, spanned, spansAt}
 use Rattle.names.specs.Names.{isStar}
 use Rattle.entries.specs.Sets.{withMember, withoutMember, lowest}
-use Rattle.listings.specs.declared.records.Place.{Place}
-use Rattle.listings.specs.declared.records.Place.the-variants.{AfterOpen, AfterAuth, AfterAllow, AfterMethod, AfterOmit}
+use Rattle.listings.specs.declared.records.Stage.{Stage}
+use Rattle.listings.specs.declared.records.Stage.the-variants.{AfterOpen, AfterAuth, AfterAllow, AfterMethod, AfterOmit}
 use Rattle.entries.specs.Tallies.{tallyAt, tallyRole, tallyConstraint, tallyAllowed, tallyCollection, tallyPattern, tallyLine, tallyMethod}
 use Rattle.entries.specs.declared.tables.Tally.{Tally}
 use Rattle.entries.proofs.Regions.{text-part, texts-append, texts-length, region-length, region-apart, region-append, region-last, on-last-same, indexed-known, indexed-new, span-part, spans-append, spans-length}
@@ -21,40 +21,40 @@ use Rattle.text.proofs.Indices.{index-bound}
 -- ---- tables with one list changed
 abbrev withRoles : Tables → List Text → Tables
 withRoles T x =
-    record { place = T .place; lines = T .lines; declared = T .declared; roles = x; methods = T .methods; patterns = T .patterns; owners = T .owners; parents = T .parents; covers = T .covers; allows = T .allows; marks = T .marks }
+    record { stage = T .stage; lines = T .lines; declared = T .declared; roles = x; methods = T .methods; patterns = T .patterns; owners = T .owners; parents = T .parents; covers = T .covers; allows = T .allows; accesses = T .accesses }
 
 abbrev withMethods : Tables → List Text → Tables
 withMethods T x =
-    record { place = T .place; lines = T .lines; declared = T .declared; roles = T .roles; methods = x; patterns = T .patterns; owners = T .owners; parents = T .parents; covers = T .covers; allows = T .allows; marks = T .marks }
+    record { stage = T .stage; lines = T .lines; declared = T .declared; roles = T .roles; methods = x; patterns = T .patterns; owners = T .owners; parents = T .parents; covers = T .covers; allows = T .allows; accesses = T .accesses }
 
 abbrev withPatterns : Tables → List Text → Tables
 withPatterns T x =
-    record { place = T .place; lines = T .lines; declared = T .declared; roles = T .roles; methods = T .methods; patterns = x; owners = T .owners; parents = T .parents; covers = T .covers; allows = T .allows; marks = T .marks }
+    record { stage = T .stage; lines = T .lines; declared = T .declared; roles = T .roles; methods = T .methods; patterns = x; owners = T .owners; parents = T .parents; covers = T .covers; allows = T .allows; accesses = T .accesses }
 
 abbrev withOwners : Tables → List ℕ → Tables
 withOwners T x =
-    record { place = T .place; lines = T .lines; declared = T .declared; roles = T .roles; methods = T .methods; patterns = T .patterns; owners = x; parents = T .parents; covers = T .covers; allows = T .allows; marks = T .marks }
+    record { stage = T .stage; lines = T .lines; declared = T .declared; roles = T .roles; methods = T .methods; patterns = T .patterns; owners = x; parents = T .parents; covers = T .covers; allows = T .allows; accesses = T .accesses }
 
 abbrev withParents : Tables → List ℕ → Tables
 withParents T x =
-    record { place = T .place; lines = T .lines; declared = T .declared; roles = T .roles; methods = T .methods; patterns = T .patterns; owners = T .owners; parents = x; covers = T .covers; allows = T .allows; marks = T .marks }
+    record { stage = T .stage; lines = T .lines; declared = T .declared; roles = T .roles; methods = T .methods; patterns = T .patterns; owners = T .owners; parents = x; covers = T .covers; allows = T .allows; accesses = T .accesses }
 
 abbrev withCovers : Tables → List ℕ → Tables
 withCovers T x =
-    record { place = T .place; lines = T .lines; declared = T .declared; roles = T .roles; methods = T .methods; patterns = T .patterns; owners = T .owners; parents = T .parents; covers = x; allows = T .allows; marks = T .marks }
+    record { stage = T .stage; lines = T .lines; declared = T .declared; roles = T .roles; methods = T .methods; patterns = T .patterns; owners = T .owners; parents = T .parents; covers = x; allows = T .allows; accesses = T .accesses }
 
 abbrev withAllows : Tables → List ℕ → Tables
 withAllows T x =
-    record { place = T .place; lines = T .lines; declared = T .declared; roles = T .roles; methods = T .methods; patterns = T .patterns; owners = T .owners; parents = T .parents; covers = T .covers; allows = x; marks = T .marks }
+    record { stage = T .stage; lines = T .lines; declared = T .declared; roles = T .roles; methods = T .methods; patterns = T .patterns; owners = T .owners; parents = T .parents; covers = T .covers; allows = x; accesses = T .accesses }
 
-abbrev withMarks : Tables → List ℕ → Tables
-withMarks T x =
-    record { place = T .place; lines = T .lines; declared = T .declared; roles = T .roles; methods = T .methods; patterns = T .patterns; owners = T .owners; parents = T .parents; covers = T .covers; allows = T .allows; marks = x }
+abbrev withAccesses : Tables → List ℕ → Tables
+withAccesses T x =
+    record { stage = T .stage; lines = T .lines; declared = T .declared; roles = T .roles; methods = T .methods; patterns = T .patterns; owners = T .owners; parents = T .parents; covers = T .covers; allows = T .allows; accesses = x }
 
--- tables with one `method` or `omit` line more: m, at place p, and with the last collection's set changed by g
-abbrev lined : Tables → Text → Place → (ℕ → ℕ) → Tables
+-- tables with one `method` or `omit` line more: m, at stage p, and with the last collection's set changed by g
+abbrev lined : Tables → Text → Stage → (ℕ → ℕ) → Tables
 lined T m p g =
-    record { place = p; lines = T .lines + 1; declared = T .declared; roles = T .roles; methods = indexed m (T .methods); patterns = T .patterns; owners = T .owners; parents = T .parents; covers = onLast g (T .covers); allows = T .allows; marks = T .marks }
+    record { stage = p; lines = T .lines + 1; declared = T .declared; roles = T .roles; methods = indexed m (T .methods); patterns = T .patterns; owners = T .owners; parents = T .parents; covers = onLast g (T .covers); allows = T .allows; accesses = T .accesses }
 
 -- ---- how many of each list there are
 module _ (s : Text) (t : Tally) (w : List ℕ) (f : Fits s t w) where
@@ -74,9 +74,9 @@ module _ (s : Text) (t : Tally) (w : List ℕ) (f : Fits s t w) where
   unfolding tablesAt
   count-covers = region-length w 449 (t .collections) (omega arith)
 
-  pub count-marks : length (tablesAt s t w .marks) ≡ t .constraints
+  pub count-accesses : length (tablesAt s t w .accesses) ≡ t .constraints
   unfolding tablesAt
-  count-marks = region-length w 651 (t .constraints) (omega arith)
+  count-accesses = region-length w 651 (t .constraints) (omega arith)
 
 -- ---- a write in the room of one list leaves the others
 module _ (s : Text) (t : Tally) (w : List ℕ) (f : Fits s t w) (j x : ℕ) where
@@ -171,9 +171,9 @@ module _ (s : Text) (t : Tally) (w : List ℕ) (f : Fits s t w) (j x : ℕ) wher
         region-apart w 651 (t .constraints) j x (omega arith),
       )
 
-  in-marks : 650 ≤ j → j < 720 → tablesAt s t (set w j x) ≡ withMarks (tablesAt s t w) (region (set w j x) 651 (t .constraints))
+  in-accesses : 650 ≤ j → j < 720 → tablesAt s t (set w j x) ≡ withAccesses (tablesAt s t w) (region (set w j x) 651 (t .constraints))
   unfolding tablesAt
-  in-marks l h =
+  in-accesses l h =
       rw (
         region-apart w 0 (t .roles) j x (omega arith),
         region-apart w 32 (t .methods) j x (omega arith),
@@ -204,15 +204,15 @@ module _ (s : Text) (t : Tally) (w : List ℕ) (f : Fits s t w) where
 
   -- the last constraint allows the roles of the set y too
   allowed : (y : ℕ) → tablesAt s t (set (set w (580 + t .constraints) (bitOr (getD w (580 + t .constraints) 0) y)) (650 + t .constraints) 2)
-      ≡ withMarks (withAllows (tablesAt s t w) (onLast (λ x. bitOr x y) (tablesAt s t w .allows))) (onLast (λ x. 2) (tablesAt s t w .marks))
+      ≡ withAccesses (withAllows (tablesAt s t w) (onLast (λ x. bitOr x y) (tablesAt s t w .allows))) (onLast (λ x. 2) (tablesAt s t w .accesses))
   unfolding tablesAt
   allowed y =
       let c = t .constraints in
       let u = bitOr (getD w (580 + c) 0) y in
       let v = set w (580 + c) u in
       let fv : Fits s t v = omega (arith, length-set w (580 + c) u) in
-      in-marks s t v fv (650 + c) 2 (omega arith) (omega arith)
-      ∙ ap₂ withMarks
+      in-accesses s t v fv (650 + c) 2 (omega arith) (omega arith)
+      ∙ ap₂ withAccesses
       (in-allows s t w f (580 + c) u (omega arith) (omega arith)
       ∙ ap (withAllows (tablesAt s t w)) (region-last w 580 c (λ x. bitOr x y) (omega arith)))
       (region-last v 650 c (λ x. 2) (omega (arith, length-set w (580 + c) u))
@@ -227,18 +227,18 @@ module _ (s : Text) (t : Tally) (w : List ℕ) (f : Fits s t w) where
       in-covers s (tallyCollection t) w (omega arith) (448 + 1 + t .collections) 4294967295 (omega arith) (omega arith)
       ∙ ap (withCovers (tablesAt s (tallyCollection t) w)) (region-append w 449 (t .collections) 4294967295 (omega arith))
 
-  -- one more constraint, at place p and with the mark m
-  marked : (p : Place) (m : ℕ) → t .constraints < 64
+  -- one more constraint, at stage p and with the access m
+  begun : (p : Stage) (m : ℕ) → t .constraints < 64
       → tablesAt s (tallyConstraint t p) (set (set w (580 + 1 + t .constraints) 0) (650 + 1 + t .constraints) m)
-      ≡ withMarks (withAllows (tablesAt s (tallyAt t p) w) (tablesAt s t w .allows ++ 0 ∷ [])) (tablesAt s t w .marks ++ m ∷ [])
+      ≡ withAccesses (withAllows (tablesAt s (tallyAt t p) w) (tablesAt s t w .allows ++ 0 ∷ [])) (tablesAt s t w .accesses ++ m ∷ [])
   unfolding tablesAt
-  marked p m h =
+  begun p m h =
       let c = t .constraints in
       let u = tallyConstraint t p in
       let v = set w (580 + 1 + c) 0 in
       let fv : Fits s u v = omega (arith, length-set w (580 + 1 + c) 0) in
-      in-marks s u v fv (650 + 1 + c) m (omega arith) (omega arith)
-      ∙ ap₂ withMarks
+      in-accesses s u v fv (650 + 1 + c) m (omega arith) (omega arith)
+      ∙ ap₂ withAccesses
       (in-allows s u w (omega arith) (580 + 1 + c) 0 (omega arith) (omega arith)
       ∙ ap (withAllows (tablesAt s u w)) (region-append w 581 c 0 (omega arith)))
       (region-append v 651 c m (omega (arith, length-set w (580 + 1 + c) 0))
@@ -247,12 +247,12 @@ module _ (s : Text) (t : Tally) (w : List ℕ) (f : Fits s t w) where
   pub open-grown : (n : Text) → same n (bytes "open") ≡ true → t .constraints < 64
       → tablesAt s (tallyConstraint t AfterOpen) (set (set w (580 + 1 + t .constraints) 0) (650 + 1 + t .constraints) 0) ≡ addConstraint (tablesAt s t w) n
   unfolding tablesAt
-  open-grown n y h = marked AfterOpen 0 h ∙ rw y
+  open-grown n y h = begun AfterOpen 0 h ∙ rw y
 
   pub auth-grown : (n : Text) → same n (bytes "open") ≡ false → t .constraints < 64
       → tablesAt s (tallyConstraint t AfterAuth) (set (set w (580 + 1 + t .constraints) 0) (650 + 1 + t .constraints) 1) ≡ addConstraint (tablesAt s t w) n
   unfolding tablesAt
-  auth-grown n y h = marked AfterAuth 1 h ∙ rw y
+  auth-grown n y h = begun AfterAuth 1 h ∙ rw y
 
   -- `allow⇥*`
   pub star-grown : (n : Text) → isStar n ≡ true
@@ -281,7 +281,7 @@ module _ (s : Text) (t : Tally) (w : List ℕ) (f : Fits s t w) where
         ∙ rw (on-last-same (λ x. bitOr x (withMember 0 i)) (addAllowTo (tablesAt s t w) n) (region w 581 (t .constraints)) allow-set, o, indexed-known n _ k)
 
   -- a `method` or `omit` line whose method is known
-  known-line : (m : Text) (p : Place) (g : ℕ → ℕ) → t .lines < 512 → indexOf m (tablesAt s t w .methods) < t .methods
+  known-line : (m : Text) (p : Stage) (g : ℕ → ℕ) → t .lines < 512 → indexOf m (tablesAt s t w .methods) < t .methods
       → tablesAt s (tallyLine t p) (set w (448 + t .collections) (g (getD w (448 + t .collections) 0))) ≡ lined (tablesAt s t w) m p g
   unfolding tablesAt
   known-line m p g l h =
@@ -289,12 +289,12 @@ module _ (s : Text) (t : Tally) (w : List ℕ) (f : Fits s t w) where
       covered s (tallyLine t p) w (omega arith) g ∙ rw (indexed-known m _ k)
 
   module _ (m : Text) (i : ℕ) (q : i ≡ indexOf m (textsAt s (region w 32 (t .methods)))) where
-    method-set : (fresh : Bool) → fresh ≡ isFirstMethod (t .place) → (x : ℕ) → withMember (cond fresh 0 x) i ≡ addMethodTo (tablesAt s t w) m x
+    method-set : (fresh : Bool) → fresh ≡ isFirstMethod (t .stage) → (x : ℕ) → withMember (cond fresh 0 x) i ≡ addMethodTo (tablesAt s t w) m x
     unfolding tablesAt
     method-set fresh y x = rw (y, q)
 
     -- `method⇥NAME` and `omit⇥NAME`, of a method that is known
-    pub known-method-grown : (fresh : Bool) → fresh ≡ isFirstMethod (t .place) → t .lines < 512 → i < t .methods
+    pub known-method-grown : (fresh : Bool) → fresh ≡ isFirstMethod (t .stage) → t .lines < 512 → i < t .methods
         → tablesAt s (tallyLine t AfterMethod)
         (set w (448 + t .collections) (withMember (cond fresh 0 (getD w (448 + t .collections) 0)) i))
         ≡ addMethod (tablesAt s t w) m
@@ -332,7 +332,7 @@ module _ (s : Text) (t : Tally) (w : List ℕ) (f : Fits s t w) (a e : ℕ) (fro
       = rw z (in-roles s u w (omega arith) (0 + t .roles) (packed s a e) (omega arith)
       ∙ ap (withRoles (tablesAt s u w)) (named s w 0 (t .roles) a e (omega arith) from to short)) in
       allowed s u v fv (withMember 0 (t .roles))
-      ∙ ap (λ (T : Tables). withMarks (withAllows T (onLast (λ x. bitOr x (withMember 0 (t .roles))) (T .allows))) (onLast (λ x. 2) (T .marks))) r
+      ∙ ap (λ (T : Tables). withAccesses (withAllows T (onLast (λ x. bitOr x (withMember 0 (t .roles))) (T .allows))) (onLast (λ x. 2) (T .accesses))) r
       ∙ rw (
         on-last-same (λ x. bitOr x (withMember 0 (t .roles))) (addAllowTo (tablesAt s t w) (part a e s)) (region w 581 (t .constraints))
             (allow-set s t w f (part a e s) o (t .roles) d),
@@ -368,10 +368,10 @@ module _ (s : Text) (t : Tally) (w : List ℕ) (f : Fits s t w) (a e : ℕ) (fro
       (region-append z 320 n (t .constraints) (omega arith)
       ∙ ap₂ (λ (l : List ℕ) (y : ℕ). l ++ y ∷ [])
       (region-apart v 320 n (192 + n) (t .collections) (omega arith) ∙ region-apart w 320 n (64 + n) x (omega arith))
-      (sym (count-marks s t w f)))
+      (sym (count-accesses s t w f)))
 
   -- a `method` or `omit` line with a new method
-  new-line : (p : Place) (g : ℕ → ℕ) (i : ℕ) → t .lines < 512 → i ≡ indexOf (part a e s) (textsAt s (region w 32 (t .methods)))
+  new-line : (p : Stage) (g : ℕ → ℕ) (i : ℕ) → t .lines < 512 → i ≡ indexOf (part a e s) (textsAt s (region w 32 (t .methods)))
       → t .methods ≤ i → t .methods < 31 → (v : List ℕ) → v ≡ set w (32 + t .methods) (packed s a e)
       → tablesAt s (tallyMethod t p) (set v (448 + t .collections) (g (getD v (448 + t .collections) 0))) ≡ lined (tablesAt s t w) (part a e s) p g
   unfolding tablesAt
@@ -390,7 +390,7 @@ module _ (s : Text) (t : Tally) (w : List ℕ) (f : Fits s t w) (a e : ℕ) (fro
     unfolding tablesAt
     new-method = omega (arith, index-bound (part a e s) (tablesAt s t w .methods), count-methods s t w f)
 
-    pub new-method-grown : (fresh : Bool) → fresh ≡ isFirstMethod (t .place)
+    pub new-method-grown : (fresh : Bool) → fresh ≡ isFirstMethod (t .stage)
         → tablesAt s (tallyMethod t AfterMethod)
         (set v (448 + t .collections) (withMember (cond fresh 0 (getD v (448 + t .collections) 0)) (t .methods)))
         ≡ addMethod (tablesAt s t w) (part a e s)

@@ -96,7 +96,7 @@ starts-taken t d = go (decLt (length d) (length t))
         sym (starts-short t d l) ∙ same-lengths (take (length t) d) t (λ e. omega arith)
     go (no l) = sym (starts-same t d (omega arith)) ∙ same-swap t (take (length t) d)
 
--- with t's stamp it names t exactly where t stands at its place
+-- with t's stamp it names t exactly where t stands at its offset
 module _ (s : Text) (x : ℕ) (t : Text) (key : ℕ) (q : key ≡ stampOf t) (e : x % 65536 ≡ key) (few : length t ≤ 255) (some-byte : length t ≡ 0 → ⊥) where
   size : x % 256 ≡ length t
   size =
@@ -246,7 +246,7 @@ module _ (w : List ℕ) (a n : ℕ) where
           ∙ ap (take n) (drop-set-add a w (j - a) x)
           ∙ take-set-le n (drop a w) (j - a) x k
 
-  -- a write behind its last place makes it longer
+  -- a write behind its last number makes it longer
   pub region-append : (x : ℕ) → a + n < length w → region (set w (a + n) x) a (n + 1) ≡ region w a n ++ x ∷ []
   unfolding region
   region-append x h =
@@ -263,7 +263,7 @@ module _ (w : List ℕ) (a n : ℕ) where
   unfolding region
   region-at i h = rw (getD-take, getD-drop)
 
--- a write at the last place changes the last, where there is one
+-- a write at the last number changes it, where there is one
 pub region-last : (w : List ℕ) (a n : ℕ) (f : ℕ → ℕ) → a + n < length w → region (set w (a + n) (f (getD w (a + n) 0))) (a + 1) n ≡ onLast f (region w (a + 1) n)
 unfolding region onLast
 region-last w a zero f h = refl

@@ -9,7 +9,7 @@ use lib.Dec.{eqb, ltb, leb}
 use lib.Bits.{bitOr}
 use Rattle.text.specs.Texts.{Text, bytes, same, run, onLast, part, indexOf}
 use Rattle.text.specs.Lines.{Line, linesOf}
-use Rattle.listings.specs.Records.{Record, formed, placeOf, mayFollow, isKind}
+use Rattle.listings.specs.Records.{Record, formed, stageOf, mayFollow, isKind}
 use Rattle.names.specs.Names.{isStar, isRoleName, isName, isMethodName, isPattern, isConstraintKind}
 use Rattle.listings.specs.Heads.{isFirstMethod}
 use Rattle.limits.specs.Limits.{mostBytes, mostConstraints, mostCollections, mostPatterns, mostMethodLines, mostRoles, mostMethods}
@@ -17,8 +17,8 @@ use Rattle.entries.specs.Room.{listingRoom}
 use Rattle.entries.specs.Sets.{withMember, withoutMember, everything, lowest}
 use Rattle.listings.specs.declared.records.Kind.{Kind}
 use Rattle.listings.specs.declared.records.Kind.the-variants.{Role, Constraint, Allow, Collection, Pattern, Method, Omit, End}
-use Rattle.listings.specs.declared.records.Place.{Place}
-use Rattle.listings.specs.declared.records.Place.the-variants.{AfterFirst, AfterRole, AfterOpen, AfterAuth, AfterAllow, AfterCollection, AfterPattern, AfterMethod, AfterOmit, AfterEnd}
+use Rattle.listings.specs.declared.records.Stage.{Stage}
+use Rattle.listings.specs.declared.records.Stage.the-variants.{AfterFirst, AfterRole, AfterOpen, AfterAuth, AfterAllow, AfterCollection, AfterPattern, AfterMethod, AfterOmit, AfterEnd}
 use Rattle.listings.specs.declared.answers.Fault.{Fault}
 use Rattle.listings.specs.declared.answers.Fault.the-variants.{WrongPlace, BadName, BadPattern, RoleTwice, PastMost}
 use Rattle.entries.specs.declared.tables.Tally.{Tally}
@@ -26,14 +26,14 @@ use Rattle.entries.specs.declared.steps.Stepped.{Stepped}
 use Rattle.entries.specs.declared.steps.Stepped.the-variants.{Next, Wrong}
 
 -- ---- what stands in the table, as lists
--- place and lines: where the reader stands, and the `method` and `omit` lines so far
+-- stage and lines: where the reader stands, and the `method` and `omit` lines so far
 -- declared: how many of the roles are declared
 -- patterns, owners, parents: the `pattern` lines, each with the number of its collection and of its constraint, from 1
 -- covers: for each collection the methods that it covers, and at the digits of no method those that nothing names
 -- allows: for each constraint the roles that it allows
--- marks: for each constraint 0 for `open`, 1 for `auth` without `allow`, 2 for `auth` with one
+-- accesses: for each constraint 0 for `open`, 1 for `auth` without `allow`, 2 for `auth` with one
 pub record Tables : Type 0 where
-  pub place : Place
+  pub stage : Stage
   pub lines : ℕ
   pub declared : ℕ
   pub roles : List Text
@@ -43,11 +43,11 @@ pub record Tables : Type 0 where
   pub parents : List ℕ
   pub covers : List ℕ
   pub allows : List ℕ
-  pub marks : List ℕ
+  pub accesses : List ℕ
 
 abbrev pub startTables : Tables
 startTables = record {
-  place = AfterFirst;
+  stage = AfterFirst;
   lines = 0;
   declared = 0;
   roles = [];
@@ -57,7 +57,7 @@ startTables = record {
   parents = [];
   covers = [];
   allows = [];
-  marks = [];
+  accesses = [];
 }
 
 -- t put behind them, if it is none of them
@@ -68,7 +68,7 @@ indexed t us = cond (ltb (indexOf t us) (length us)) us (us ++ t ∷ [])
 -- ---- what a record adds
 abbrev pub addRole : Tables → Text → Tables
 addRole T n = record {
-  place = AfterRole;
+  stage = AfterRole;
   lines = T .lines;
   declared = T .declared + 1;
   roles = T .roles ++ n ∷ [];
@@ -78,12 +78,12 @@ addRole T n = record {
   parents = T .parents;
   covers = T .covers;
   allows = T .allows;
-  marks = T .marks;
+  accesses = T .accesses;
 }
 
 abbrev pub addConstraint : Tables → Text → Tables
 addConstraint T word = record {
-  place = cond (same word (bytes "open")) AfterOpen AfterAuth;
+  stage = cond (same word (bytes "open")) AfterOpen AfterAuth;
   lines = T .lines;
   declared = T .declared;
   roles = T .roles;
@@ -93,7 +93,7 @@ addConstraint T word = record {
   parents = T .parents;
   covers = T .covers;
   allows = T .allows ++ 0 ∷ [];
-  marks = T .marks ++ cond (same word (bytes "open")) 0 1 ∷ [];
+  accesses = T .accesses ++ cond (same word (bytes "open")) 0 1 ∷ [];
 }
 
 -- the roles that `allow⇥NAME` adds to the set x
@@ -102,7 +102,7 @@ addAllowTo T n x = cond (isStar n) (bitOr x (lowest (T .declared))) (withMember 
 
 abbrev pub addAllow : Tables → Text → Tables
 addAllow T n = record {
-  place = AfterAllow;
+  stage = AfterAllow;
   lines = T .lines;
   declared = T .declared;
   roles = cond (isStar n) (T .roles) (indexed n (T .roles));
@@ -112,12 +112,12 @@ addAllow T n = record {
   parents = T .parents;
   covers = T .covers;
   allows = onLast (addAllowTo T n) (T .allows);
-  marks = onLast (λ (x : ℕ). 2) (T .marks);
+  accesses = onLast (λ (x : ℕ). 2) (T .accesses);
 }
 
 abbrev pub addCollection : Tables → Text → Tables
 addCollection T t = record {
-  place = AfterCollection;
+  stage = AfterCollection;
   lines = T .lines;
   declared = T .declared;
   roles = T .roles;
@@ -127,30 +127,30 @@ addCollection T t = record {
   parents = T .parents;
   covers = T .covers ++ everything ∷ [];
   allows = T .allows;
-  marks = T .marks;
+  accesses = T .accesses;
 }
 
 abbrev pub addPattern : Tables → Text → Tables
 addPattern T t = record {
-  place = AfterPattern;
+  stage = AfterPattern;
   lines = T .lines;
   declared = T .declared;
   roles = T .roles;
   methods = T .methods;
   patterns = T .patterns ++ t ∷ [];
   owners = T .owners ++ length (T .covers) ∷ [];
-  parents = T .parents ++ length (T .marks) ∷ [];
+  parents = T .parents ++ length (T .accesses) ∷ [];
   covers = T .covers;
   allows = T .allows;
-  marks = T .marks;
+  accesses = T .accesses;
 }
 
 abbrev pub addMethodTo : Tables → Text → ℕ → ℕ
-addMethodTo T m x = withMember (cond (isFirstMethod (T .place)) 0 x) (indexOf m (T .methods))
+addMethodTo T m x = withMember (cond (isFirstMethod (T .stage)) 0 x) (indexOf m (T .methods))
 
 abbrev pub addMethod : Tables → Text → Tables
 addMethod T m = record {
-  place = AfterMethod;
+  stage = AfterMethod;
   lines = T .lines + 1;
   declared = T .declared;
   roles = T .roles;
@@ -160,12 +160,12 @@ addMethod T m = record {
   parents = T .parents;
   covers = onLast (addMethodTo T m) (T .covers);
   allows = T .allows;
-  marks = T .marks;
+  accesses = T .accesses;
 }
 
 abbrev pub addOmit : Tables → Text → Tables
 addOmit T m = record {
-  place = AfterOmit;
+  stage = AfterOmit;
   lines = T .lines + 1;
   declared = T .declared;
   roles = T .roles;
@@ -175,12 +175,12 @@ addOmit T m = record {
   parents = T .parents;
   covers = onLast (λ (x : ℕ). withoutMember x (indexOf m (T .methods))) (T .covers);
   allows = T .allows;
-  marks = T .marks;
+  accesses = T .accesses;
 }
 
 abbrev pub addEnd : Tables → Text → Tables
 addEnd T t = record {
-  place = AfterEnd;
+  stage = AfterEnd;
   lines = T .lines;
   declared = T .declared;
   roles = T .roles;
@@ -190,7 +190,7 @@ addEnd T t = record {
   parents = T .parents;
   covers = T .covers;
   allows = T .allows;
-  marks = T .marks;
+  accesses = T .accesses;
 }
 
 -- what a record of that kind adds
@@ -224,7 +224,7 @@ checkRole T n =
 abbrev pub checkConstraint : Tables → Text → Option Fault
 checkConstraint T word =
     cond (not (isConstraintKind word)) (some BadName)
-    (cond (leb mostConstraints (length (T .marks))) (some PastMost)
+    (cond (leb mostConstraints (length (T .accesses))) (some PastMost)
     none)
 
 abbrev pub checkAllow : Tables → Text → Option Fault
@@ -252,7 +252,7 @@ checkMethod T m =
     (cond (leb mostMethods (length (T .methods))) (some PastMost)
     none)))
 
--- what refuses a record of that kind in its right place
+-- what refuses a record of that kind that may follow
 unfoldable pub fieldCheck : Kind → Tables → Text → Option Fault
 unfolding indexOf
 fieldCheck Role T t = checkRole T t
@@ -266,7 +266,7 @@ fieldCheck End T t = none
 
 unfoldable pub checkRecord : Tables → Record → Option Fault
 unfolding fieldCheck
-checkRecord T r = cond (mayFollow (T .place) (r .kind)) (fieldCheck (r .kind) T (r .field)) (some WrongPlace)
+checkRecord T r = cond (mayFollow (T .stage) (r .kind)) (fieldCheck (r .kind) T (r .field)) (some WrongPlace)
 
 -- ---- a step, a line, and all of them
 pub data Stepping : Type 0 where
@@ -285,7 +285,7 @@ unfolding checkRecord fieldAdd
 stepFrom T r = steppedBy (checkRecord T r) (tablesWith T r)
 
 -- ---- the numbers of the table
--- where each list begins; covers, allows and marks are counted from 1, and the number at their place 0 means nothing
+-- where each list begins; covers, allows and accesses are counted from 1, and the number at their index 0 means nothing
 abbrev pub rolesAt : ℕ
 rolesAt = 0
 
@@ -307,10 +307,10 @@ coversAt = 448
 abbrev pub allowsAt : ℕ
 allowsAt = 580
 
-abbrev pub marksAt : ℕ
-marksAt = 650
+abbrev pub accessesAt : ℕ
+accessesAt = 650
 
--- n numbers of the table from place a on
+-- n numbers of the table from offset a on
 unfoldable pub region : List ℕ → ℕ → ℕ → List ℕ
 region w a n = take n (drop a w)
 
@@ -318,7 +318,7 @@ region w a n = take n (drop a w)
 unfoldable pub stampOf : Text → ℕ
 stampOf t = (getD t (length t - 2) 0 % 256 * 16 + getD t (length t - 1) 0 % 256) % 256 * 256 + length t % 256
 
--- the number that names the text of s from a up to e: its place, and its stamp
+-- the number that names the text of s from a up to e: its offset, and its stamp
 abbrev pub packed : Text → ℕ → ℕ → ℕ
 packed s a e = a * 65536 + stampOf (part a e s)
 
@@ -327,7 +327,7 @@ unfoldable pub stamped : Text → ℕ → Text
 unfolding stampOf
 stamped t k = cond (eqb (stampOf t) k) t []
 
--- the text that a number names: as long as it says, at the place that it says, and none where that has another stamp
+-- the text that a number names: as long as it says, at the offset that it says, and none where that has another stamp
 unfoldable pub textAt : Text → ℕ → Text
 unfolding stamped
 textAt s x = stamped (take (x % 256) (drop (x / 65536) s)) (x % 65536)
@@ -336,15 +336,15 @@ unfoldable pub textsAt : Text → List ℕ → List Text
 unfolding textAt
 textsAt s xs = map (textAt s) xs
 
--- t, looked for among the texts from place j on, is found where it is from place k on
+-- t, looked for among the texts from index j on, is found where it is from index k on
 abbrev pub Skips : Text → List Text → ℕ → ℕ → Type 0
 Skips t us j k = j + indexOf t (drop j us) ≡ k + indexOf t (drop k us)
 
--- nothing looks for a pattern's text among the others: its number is its place and its length alone
+-- nothing looks for a pattern's text among the others: its number is its offset and its length alone
 abbrev pub spanned : ℕ → ℕ → ℕ
 spanned a e = a * 65536 + (e - a)
 
--- the text of that place and length, and none where it would run past the end
+-- the text of that offset and length, and none where it would run past the end
 unfoldable pub spanAt : Text → ℕ → Text
 spanAt s x = cond (leb (x / 65536 + x % 65536) (length s)) (take (x % 65536) (drop (x / 65536) s)) []
 
@@ -356,7 +356,7 @@ spansAt s xs = map (spanAt s) xs
 unfoldable pub tablesAt : Text → Tally → List ℕ → Tables
 unfolding region textsAt spansAt
 tablesAt s t w = record {
-  place = t .place;
+  stage = t .stage;
   lines = t .lines;
   declared = t .declared;
   roles = textsAt s (region w rolesAt (t .roles));
@@ -366,7 +366,7 @@ tablesAt s t w = record {
   parents = region w parentsAt (t .patterns);
   covers = region w (coversAt + 1) (t .collections);
   allows = region w (allowsAt + 1) (t .constraints);
-  marks = region w (marksAt + 1) (t .constraints);
+  accesses = region w (accessesAt + 1) (t .constraints);
 }
 
 -- the counts within their limits, the text too, and the room for them

@@ -10,7 +10,7 @@ use limits::most;
 use listings::answers::Fault;
 use listings::records;
 use listings::records::Kind;
-use listings::records::Place;
+use listings::records::Stage;
 use text::texts;
 
 // What a record comes to: the counts with it, or the rule that it breaks.
@@ -52,10 +52,10 @@ pub fn constraint(s: &[u8], w: &mut [u32], t: Tally, a: usize, e: usize) -> Step
     }
     if texts::are_same(&s[a..e], b"open") {
         tables::put_constraint(w, n, 0);
-        return Stepped::Next(t.with_constraint(Place::AfterOpen));
+        return Stepped::Next(t.with_constraint(Stage::AfterOpen));
     }
     tables::put_constraint(w, n, 1);
-    Stepped::Next(t.with_constraint(Place::AfterAuth))
+    Stepped::Next(t.with_constraint(Stage::AfterAuth))
 }
 
 // `allow⇥NAME` and `allow⇥*`
@@ -71,12 +71,12 @@ pub fn allow(s: &[u8], w: &mut [u32], t: Tally, a: usize, e: usize, clean: bool)
     }
     if names::is_star(&s[a..e]) {
         tables::allow_declared(w, c, declared);
-        return Stepped::Next(t.at(Place::AfterAllow));
+        return Stepped::Next(t.at(Stage::AfterAllow));
     }
     let i = tables::index(s, w, tables::ROLES, n, &s[a..e]);
     if i < n {
         tables::allow_role(w, c, i);
-        return Stepped::Next(t.at(Place::AfterAllow));
+        return Stepped::Next(t.at(Stage::AfterAllow));
     }
     if most(Counted::Roles) <= n {
         return Stepped::Wrong(Fault::PastMost);
@@ -125,8 +125,8 @@ pub fn method(table: &[u8; 256], s: &[u8], w: &mut [u32], t: Tally, a: usize, e:
     let n = t.methods;
     let lines = t.lines;
     let c = t.collections;
-    let place = t.place;
-    let fresh = records::is_first_method(place);
+    let stage = t.stage;
+    let fresh = records::is_first_method(stage);
     if !names::is_method_name(table, &s[a..e]) {
         return Stepped::Wrong(Fault::BadName);
     }
@@ -136,14 +136,14 @@ pub fn method(table: &[u8; 256], s: &[u8], w: &mut [u32], t: Tally, a: usize, e:
     let i = tables::index(s, w, tables::METHODS, n, &s[a..e]);
     if i < n {
         tables::cover(w, c, fresh, i);
-        return Stepped::Next(t.with_line(Place::AfterMethod));
+        return Stepped::Next(t.with_line(Stage::AfterMethod));
     }
     if most(Counted::Methods) <= n {
         return Stepped::Wrong(Fault::PastMost);
     }
     tables::put_text(s, w, tables::METHODS + n, a, e);
     tables::cover(w, c, fresh, n);
-    Stepped::Next(t.with_method(Place::AfterMethod))
+    Stepped::Next(t.with_method(Stage::AfterMethod))
 }
 
 // `omit⇥NAME`
@@ -163,17 +163,17 @@ pub fn omit(table: &[u8; 256], s: &[u8], w: &mut [u32], t: Tally, a: usize, e: u
     let i = tables::index(s, w, tables::METHODS, n, &s[a..e]);
     if i < n {
         tables::uncover(w, c, i);
-        return Stepped::Next(t.with_line(Place::AfterOmit));
+        return Stepped::Next(t.with_line(Stage::AfterOmit));
     }
     if most(Counted::Methods) <= n {
         return Stepped::Wrong(Fault::PastMost);
     }
     tables::put_text(s, w, tables::METHODS + n, a, e);
     tables::uncover(w, c, n);
-    Stepped::Next(t.with_method(Place::AfterOmit))
+    Stepped::Next(t.with_method(Stage::AfterOmit))
 }
 
-// A record of kind k, in its right place.
+// A record of kind k that may follow.
 pub fn field(
     table: &[u8; 256],
     s: &[u8],
@@ -195,7 +195,7 @@ pub fn field(
         Kind::Pattern => pattern(s, w, t, a, e, clean),
         Kind::Method => method(table, s, w, t, a, e),
         Kind::Omit => omit(table, s, w, t, a, e),
-        Kind::End => Stepped::Next(t.at(Place::AfterEnd)),
+        Kind::End => Stepped::Next(t.at(Stage::AfterEnd)),
     }
 }
 
@@ -213,8 +213,8 @@ pub fn step(
     requires { ⌜ (now table ≡ classTable) × (Field (now s) t (now w) a e × (clean ≡ all isText (part a e (now s)))) ⌝ }
     ensures { λ r. ⌜ StepOutcome (now (s .entry)) (stepFrom (tablesAt (now (s .entry)) t (now (w .entry))) (recordWith k (part a e (now (s .entry))))) r (now (w .exit)) ⌝ }
 {
-    let place = t.place;
-    if !records::may_follow(place, k) {
+    let stage = t.stage;
+    if !records::may_follow(stage, k) {
         return Stepped::Wrong(Fault::WrongPlace);
     }
     field(table, s, w, t, k, a, e, clean)

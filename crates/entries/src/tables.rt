@@ -8,10 +8,10 @@ ghost use Rattle.entries.specs.Sets.{withMember, withoutMember, lowest};
 ghost use Rattle.text.specs.Texts.{same, indexOf};
 ghost use Rattle.entries.specs.Tables.{stampOf, packed, textAt, textsAt, region, Skips, spanned, spanAt};
 ghost use Rattle.entries.specs.Tallies.{startTally, tallyAt, tallyRole, tallyConstraint, tallyAllowed, tallyCollection, tallyPattern, tallyLine, tallyMethod};
-use listings::records::Place;
+use listings::records::Stage;
 use text::texts;
 
-// Where each list begins. Covers, allows and marks are counted from 1, and the number at their place 0 means nothing.
+// Where each list begins. Covers, allows and accesses are counted from 1, and the number at their index 0 means nothing.
 pub const ROLES: usize = 0;
 
 pub const METHODS: usize = 32;
@@ -26,11 +26,11 @@ pub const COVERS: usize = 448;
 
 pub const ALLOWS: usize = 580;
 
-pub const MARKS: usize = 650;
+pub const ACCESSES: usize = 650;
 
 // How much of each list is filled, and where the reader stands.
 pub struct Tally {
-    pub place: Place,
+    pub stage: Stage,
     pub lines: usize,
     pub declared: usize,
     pub roles: usize,
@@ -77,7 +77,7 @@ pub fn wide_set(x: u32) -> u64
     x as u64
 }
 
-// The text that the number x names: its place, its last byte and its length; none where the text there has another stamp.
+// The text that the number x names: its offset, its last byte and its length; none where the text there has another stamp.
 pub fn text_at(s: &[u8], x: u32) -> &[u8]
     ensures { λ r. ⌜ now r ≡ textAt (now (s .entry)) x ⌝ }
 {
@@ -94,7 +94,7 @@ pub fn text_at(s: &[u8], x: u32) -> &[u8]
     }
 }
 
-// The text that the number x spans: its place and its length; none where it would run past the end.
+// The text that the number x spans: its offset and its length; none where it would run past the end.
 pub fn span_at(s: &[u8], x: u32) -> &[u8]
     ensures { λ r. ⌜ now r ≡ spanAt (now (s .entry)) x ⌝ }
 {
@@ -107,7 +107,7 @@ pub fn span_at(s: &[u8], x: u32) -> &[u8]
     &s[from..to]
 }
 
-// Whether x names t, whose stamp is `key`. With that stamp it does if t stands at its place; with another it does not, unless t is empty.
+// Whether x names t, whose stamp is `key`. With that stamp it does if t stands at its offset; with another it does not, unless t is empty.
 pub fn is_named(s: &[u8], x: u32, key: u32, t: &[u8]) -> bool
     requires { ⌜ key ≡ stampOf (now t) ⌝ }
     ensures { λ r. ⌜ r ≡ same (textAt (now (s .entry)) x) (now (t .entry)) ⌝ }
@@ -128,7 +128,7 @@ pub fn is_named(s: &[u8], x: u32, key: u32, t: &[u8]) -> bool
     texts::starts_with(t, &s[from..])
 }
 
-// Of the n numbers from `base` on, the place of the next, from place `from` on, that may name t: it has t's stamp, which is `key`, or t is
+// Of the n numbers from `base` on, the index of the next, from index `from` on, that may name t: it has t's stamp, which is `key`, or t is
 // empty. A loop of its own, since most numbers are passed by here.
 pub fn past_others(
     s: &[u8],
@@ -156,7 +156,7 @@ pub fn past_others(
     k
 }
 
-// The place of t among the n texts that the table names from `base` on, or n where it is none of them.
+// The index of t among the n texts that the table names from `base` on, or n where it is none of them.
 pub fn index(s: &[u8], w: &[u32], base: usize, n: usize, t: &[u8]) -> usize
     requires { ⌜ base + n ≤ length (now w) ⌝ }
     ensures { λ r. ⌜ r ≡ indexOf (now (t .entry)) (textsAt (now (s .entry)) (region (now (w .entry)) base n)) ⌝ }
@@ -219,13 +219,13 @@ pub fn lowest_of(n: usize) -> u32
 
 // ---- what a record writes
 
-// The constraint that n others stand before begins, with its mark, and allows no role yet.
-pub fn put_constraint(w: &mut [u32], n: usize, mark: u32)
+// The constraint that n others stand before begins, with the number of its access, and allows no role yet.
+pub fn put_constraint(w: &mut [u32], n: usize, access: u32)
     requires { ⌜ (651 + n < length (now w)) × (n ≤ 64) ⌝ }
-    ensures { λ _. ⌜ now (w .exit) ≡ set (set (now (w .entry)) (581 + n) 0) (651 + n) mark ⌝ }
+    ensures { λ _. ⌜ now (w .exit) ≡ set (set (now (w .entry)) (581 + n) 0) (651 + n) access ⌝ }
 {
     w[ALLOWS + 1 + n] = 0;
-    w[MARKS + 1 + n] = mark;
+    w[ACCESSES + 1 + n] = access;
 }
 
 // The pattern that n others stand before: its text from a up to e, and the numbers of its collection and of its constraint.
@@ -245,7 +245,7 @@ pub fn allow(w: &mut [u32], c: usize, roles: u32)
     ensures { λ _. ⌜ now (w .exit) ≡ set (set (now (w .entry)) (580 + c) (bitOr (getD (now (w .entry)) (580 + c) 0) roles)) (650 + c) 2 ⌝ }
 {
     w[ALLOWS + c] = w[ALLOWS + c] | roles;
-    w[MARKS + c] = 2;
+    w[ACCESSES + c] = 2;
 }
 
 // Constraint c allows the first n roles too, which are the declared ones.
@@ -292,7 +292,7 @@ impl Tally {
         ensures { λ r. ⌜ r ≡ startTally ⌝ }
     {
         Tally {
-            place: Place::AfterFirst,
+            stage: Stage::AfterFirst,
             lines: 0,
             declared: 0,
             roles: 0,
@@ -303,12 +303,12 @@ impl Tally {
         }
     }
 
-    // The reader at another place.
-    pub fn at(self, place: Place) -> Tally
-        ensures { λ r. ⌜ r ≡ tallyAt self place ⌝ }
+    // The reader at another stage.
+    pub fn at(self, stage: Stage) -> Tally
+        ensures { λ r. ⌜ r ≡ tallyAt self stage ⌝ }
     {
         Tally {
-            place: place,
+            stage: stage,
             lines: self.lines,
             declared: self.declared,
             roles: self.roles,
@@ -325,7 +325,7 @@ impl Tally {
         ensures { λ r. ⌜ r ≡ tallyRole self ⌝ }
     {
         Tally {
-            place: Place::AfterRole,
+            stage: Stage::AfterRole,
             lines: self.lines,
             declared: self.declared + 1,
             roles: self.roles + 1,
@@ -337,12 +337,12 @@ impl Tally {
     }
 
     // A constraint more.
-    pub fn with_constraint(self, place: Place) -> Tally
+    pub fn with_constraint(self, stage: Stage) -> Tally
         requires { ⌜ (self .constraints < 1000) ⌝ }
-        ensures { λ r. ⌜ r ≡ tallyConstraint self place ⌝ }
+        ensures { λ r. ⌜ r ≡ tallyConstraint self stage ⌝ }
     {
         Tally {
-            place: place,
+            stage: stage,
             lines: self.lines,
             declared: self.declared,
             roles: self.roles,
@@ -359,7 +359,7 @@ impl Tally {
         ensures { λ r. ⌜ r ≡ tallyAllowed self ⌝ }
     {
         Tally {
-            place: Place::AfterAllow,
+            stage: Stage::AfterAllow,
             lines: self.lines,
             declared: self.declared,
             roles: self.roles + 1,
@@ -376,7 +376,7 @@ impl Tally {
         ensures { λ r. ⌜ r ≡ tallyCollection self ⌝ }
     {
         Tally {
-            place: Place::AfterCollection,
+            stage: Stage::AfterCollection,
             lines: self.lines,
             declared: self.declared,
             roles: self.roles,
@@ -393,7 +393,7 @@ impl Tally {
         ensures { λ r. ⌜ r ≡ tallyPattern self ⌝ }
     {
         Tally {
-            place: Place::AfterPattern,
+            stage: Stage::AfterPattern,
             lines: self.lines,
             declared: self.declared,
             roles: self.roles,
@@ -405,12 +405,12 @@ impl Tally {
     }
 
     // A `method` or `omit` line more.
-    pub fn with_line(self, place: Place) -> Tally
+    pub fn with_line(self, stage: Stage) -> Tally
         requires { ⌜ (self .lines < 1000) ⌝ }
-        ensures { λ r. ⌜ r ≡ tallyLine self place ⌝ }
+        ensures { λ r. ⌜ r ≡ tallyLine self stage ⌝ }
     {
         Tally {
-            place: place,
+            stage: stage,
             lines: self.lines + 1,
             declared: self.declared,
             roles: self.roles,
@@ -422,12 +422,12 @@ impl Tally {
     }
 
     // Such a line, and a method more.
-    pub fn with_method(self, place: Place) -> Tally
+    pub fn with_method(self, stage: Stage) -> Tally
         requires { ⌜ (self .lines < 1000) × (self .methods < 1000) ⌝ }
-        ensures { λ r. ⌜ r ≡ tallyMethod self place ⌝ }
+        ensures { λ r. ⌜ r ≡ tallyMethod self stage ⌝ }
     {
         Tally {
-            place: place,
+            stage: stage,
             lines: self.lines + 1,
             declared: self.declared,
             roles: self.roles,

@@ -81,7 +81,7 @@ held-small old new to tn wo wn O N =
     let d = O .proper .few-patterns in
     rw (total-append (texts (viewAt new tn wn)) (texts (viewAt old to wo))) (omega arith)
 
--- ---- the table: w, then with z in the place of the marks, then with new's numbers marked, and then with old's too
+-- ---- the table: w, then with z instead of the marks, then with new's numbers marked, and then with old's too
 -- what marking the numbers of some texts leaves
 abbrev Lined : ℕ → List Text → List ℕ → List ℕ → Type 0
 Lined n ts before now =

@@ -15,7 +15,7 @@ use Rattle.fillers.specs.Marks.{MarkedToo, Passed, leads, within}
 use Rattle.fillers.proofs.LeadingNumbers.{startsFrom, leads-from}
 use Rattle.fillers.proofs.Marking.{Remaining, marking-starts, marking-ends, marking-turns, marking-skips}
 
--- from a place on stand its element and the next ones
+-- from an index on stand its element and the next ones
 next-drop : {A : Type 0} (l : List A) (i : ℕ) (d : A) → i < length l → drop i l ≡ getD l i d ∷ drop (i + 1) l
 next-drop l i d h = rw add-one (drop-cons l i d h)
 

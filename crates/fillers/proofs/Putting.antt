@@ -11,7 +11,7 @@ use Rattle.writing.proofs.Decimals.{digits-most}
 use Rattle.writing.proofs.Puts.{sets-start, sets-length}
 use Rattle.trials.specs.Fillers.{numbered}
 
-module _ (out d : Text) (x n r : ℕ) (place : r ≡ 0 + length (x ∷ digits 5 n)) where
+module _ (out d : Text) (x n r : ℕ) (offset : r ≡ 0 + length (x ∷ digits 5 n)) where
   pub name-size : r ≤ 6
   name-size = omega (arith, digits-most 5 n)
 

@@ -19,20 +19,20 @@ use Rattle.trials.specs.Fillers.{numbered, firstNumber, isUnnamed}
 use Rattle.trials.proofs.Pigeons.{first-one}
 use Rattle.trials.proofs.FillersExist.{method-is-first}
 
--- ---- one number: name is `Q` and n, i its place among new's methods, k their number
-module _ (old new : List Text) (n i k : ℕ) (name : Text) (written : name ≡ numbered (81 ∷ []) n) (place : i ≡ indexOf name new) (count : k ≡ length new) where
+-- ---- one number: name is `Q` and n, i its index among new's methods, k their number
+module _ (old new : List Text) (n i k : ℕ) (name : Text) (written : name ≡ numbered (81 ∷ []) n) (index : i ≡ indexOf name new) (count : k ≡ length new) where
   -- new names it
   pub named-first : i < k → false ≡ isUnnamed (new ++ old) n
   unfolding isUnnamed
   named-first h =
-      let e : member name new ≡ true = sym (index-member name new) ∙ lt-ltb _ _ (rw (place, count) at h) in
+      let e : member name new ≡ true = sym (index-member name new) ∙ lt-ltb _ _ (rw (index, count) at h) in
       rw (← written, member-append name new old, e)
 
   -- or else it is for old to name it
   pub named-then : k ≤ i → (j l : ℕ) → j ≡ indexOf name old → l ≡ length old → leb l j ≡ isUnnamed (new ++ old) n
   unfolding isUnnamed
   named-then h j l p q =
-      let e : member name new ≡ false = sym (index-member name new) ∙ le-ltb _ _ (rw (place, count) at h) in
+      let e : member name new ≡ false = sym (index-member name new) ∙ le-ltb _ _ (rw (index, count) at h) in
       rw (← written, member-append name new old, e, ← index-member name old, p, q) (other (indexOf name old) (length old))
     where
       other : (a b : ℕ) → leb b a ≡ not (ltb a b)

@@ -4,7 +4,7 @@ use mathlib.Core.Path.{_≡_}
 use mathlib.Core.List.{List}
 use lib.ListN.{length, getD}
 
--- w is w₀ but for its numbers from place a up to place e
+-- w is w₀ but for its numbers from offset a up to offset e
 pub record Kept (a e : ℕ) (w₀ w : List ℕ) : Type 0 where
   pub size : length w ≡ length w₀
   pub before : (i : ℕ) → i < a → getD w i 0 ≡ getD w₀ i 0

@@ -22,7 +22,7 @@ common (x ∷ xs) (y ∷ ys) = cond (eqb x y) (suc (common xs ys)) 0
 abbrev pub linesIn : Text → Text → Pair → List ℕ → List Text
 linesIn old new pair w = texts (viewAt new (pair .new) (part 1024 2048 w)) ++ texts (viewAt old (pair .old) (part 0 1024 w))
 
--- it holds both, and has room for 2,048 numbers from place at on, behind them
+-- it holds both, and has room for 2,048 numbers from offset at on, behind them
 pub record Laid (old new : Text) (pair : Pair) (at : ℕ) (w : List ℕ) : Type 0 where
   pub olds : Holds old (pair .old) (part 0 1024 w)
   pub news : Holds new (pair .new) (part 1024 2048 w)

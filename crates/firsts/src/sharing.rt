@@ -16,7 +16,7 @@ pub const SHARED: usize = 256;
 
 pub const COMMON: usize = 512;
 
-// How many bytes t and u share from place `from` on, and `from` more.
+// How many bytes t and u share from offset `from` on, and `from` more.
 pub fn shared_from(t: &[u8], u: &[u8], from: usize) -> usize
     ensures { λ r. ⌜ r ≡ from + common (drop from (now (t .entry))) (drop from (now (u .entry))) ⌝ }
 {

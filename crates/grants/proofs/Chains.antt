@@ -26,7 +26,7 @@ use Rattle.matching.specs.Strengths.{strength, startLeading, lead, leading}
 use Rattle.deciding.specs.declared.joining.Joined.{Joined}
 use Rattle.matching.specs.declared.Leading.{Leading}
 use Rattle.matching.proofs.Strengths.{leads, at-listed, lead-past, lead-takes}
-use Rattle.grants.specs.Sides.{renumbered, seenJoined, accessMark, accessRoles, gapAt, SideOf, accessFrom, accessIn, joinedAlong}
+use Rattle.grants.specs.Sides.{renumbered, seenJoined, accessNumber, accessRoles, gapAt, SideOf, accessFrom, accessIn, joinedAlong}
 
 -- ---- sets of roles in other numbers
 -- a number is in two sets together where it is in one of them
@@ -68,7 +68,7 @@ module _ (ns os : List Text) where
   unfolding renumbered
   renumbered-none = set-none 32 (has 0) (λ i. rw (zero-div (2 ^ indexOf (getD ns i []) os), and-false (ltb (indexOf (getD ns i []) os) (length os))) (and-false (ltb i (length ns))))
 
--- ---- texts before a text's place are others
+-- ---- texts before a text's index are others
 index-before : (t : Text) (us : List Text) (j : ℕ) → j < indexOf t us → same (getD us j []) t ≡ false
 unfolding indexOf
 index-before t [] j h = absurd (omega arith)
@@ -93,7 +93,7 @@ module _ (ns : List Text) (v : View) (side : List ℕ) (S : SideOf ns v side) (t
       ∙ joined-over k d (λ j i. h j (omega arith))
 
   -- what the table joins for a line is what the line says
-  joined-one : (j : Joined) (a : Access) → joinWith (seenJoined ns v j) (accessFrom (accessMark a) (renumbered ns (v .roles) (accessRoles a))) ≡ seenJoined ns v (joinWith j a)
+  joined-one : (j : Joined) (a : Access) → joinWith (seenJoined ns v j) (accessFrom (accessNumber a) (renumbered ns (v .roles) (accessRoles a))) ≡ seenJoined ns v (joinWith j a)
   joined-one j Open = refl
   joined-one j Closed = refl
   joined-one j (ByRole x) =
@@ -105,12 +105,12 @@ module _ (ns : List Text) (v : View) (side : List ℕ) (S : SideOf ns v side) (t
       ≡ seenJoined ns v (joinedUpTo v t m (k + 1))
   unfolding joinedUpTo isLineFor
   joined-step k h e =
-      rw (add-one k, S .lines k h .cover, S .lines k h .mark, S .lines k h .roles, e, same-self t) (go (eqb (digit m (coverAt v k)) 1))
+      rw (add-one k, S .lines k h .cover, S .lines k h .access, S .lines k h .roles, e, same-self t) (go (eqb (digit m (coverAt v k)) 1))
     where
       j : Joined
       j = joinedUpTo v t m k
 
-      go : (b : Bool) → cond b (joinWith (seenJoined ns v j) (accessFrom (accessMark (accessAt v k)) (renumbered ns (v .roles) (accessRoles (accessAt v k))))) (seenJoined ns v j)
+      go : (b : Bool) → cond b (joinWith (seenJoined ns v j) (accessFrom (accessNumber (accessAt v k)) (renumbered ns (v .roles) (accessRoles (accessAt v k))))) (seenJoined ns v j)
           ≡ seenJoined ns v (cond b (joinWith j (accessAt v k)) j)
       go true = joined-one j (accessAt v k)
       go false = refl

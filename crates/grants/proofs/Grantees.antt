@@ -1,4 +1,4 @@
--- At the place of a path the table of a side grants whom the listing grants there.
+-- At the best line of a path the table of a side grants whom the listing grants there.
 use mathlib.Core.Path.{_≡_, refl, sym, ap, _∙_}
 use mathlib.Core.Bool.{Bool, true, false, not, cond, _&&_, or-false}
 use mathlib.Core.List.{List, [], _∷_}
@@ -34,7 +34,7 @@ use Rattle.matching.specs.declared.Leading.{Leading}
 use Rattle.matching.proofs.Strengths.{leads, best-line-some, best-line-none}
 use Rattle.deciding.proofs.Joins.{Shows, Listed, agree-all, rolesThat}
 use Rattle.trials.specs.Trials.{one}
-use Rattle.grants.specs.Sides.{placeOf, callerAt, everyone, renumbered, granted, seenJoined, SideOf, grantsIn}
+use Rattle.grants.specs.Sides.{bestIn, callerAt, everyone, renumbered, granteesOf, seenJoined, SideOf, grantsIn}
 use Rattle.grants.proofs.Chains.{along-first, leader-first}
 
 -- ---- whom an access grants, by the callers' numbers
@@ -172,9 +172,9 @@ module _ (ns : List Text) (few : length ns ≤ 32) (l : Listing) (P : Proper l) 
   shows-grants j (roles f) s = rw (s .0, s .1, s .2) (roles-joined f (s .3))
 
   -- so it grants whom the constraints taken grant
-  granted-at : (t m : Text) → granted (seenJoined ns (viewOf l) (joinedUpTo (viewOf l) t (indexOf m (l .methods)) (length (patternsOf l)))) ≡ seenBy ns (combinedAt l (some t) m)
-  unfolding granted viewOf
-  granted-at t m = let A = agree-all l P t m in rw (A .0, gathered-combined l t m) (go (gathered l t m .any) (A .1))
+  grantees-at : (t m : Text) → granteesOf (seenJoined ns (viewOf l) (joinedUpTo (viewOf l) t (indexOf m (l .methods)) (length (patternsOf l)))) ≡ seenBy ns (combinedAt l (some t) m)
+  unfolding granteesOf viewOf
+  grantees-at t m = let A = agree-all l P t m in rw (A .0, gathered-combined l t m) (go (gathered l t m .any) (A .1))
     where
       j : Joined
       j = joinedUpTo (viewOf l) t (indexOf m (l .methods)) (length (patternsOf l))
@@ -185,25 +185,25 @@ module _ (ns : List Text) (few : length ns ≤ 32) (l : Listing) (P : Proper l) 
       go true s = shows-grants j (gathered l t m .sum) s
       go false s = seen-free ns
 
-  -- ---- at the place of a path the table grants whom the listing grants
+  -- ---- at the best line of a path the table grants whom the listing grants
   module _ (side : List ℕ) (S : SideOf ns (viewOf l) side) (p m : Text) where
     abbrev x : Leading
     x = leading (patternsOf l) p
 
-    by-place : (b : Bool) → eqb (x .most) 0 ≡ b
+    by-best : (b : Bool) → eqb (x .most) 0 ≡ b
         → grantsIn side (length (patternsOf l)) (cond b 0 (x .at + 1)) (indexOf m (l .methods)) ≡ seenBy ns (combinedAt l (best (patternsOf l) p) m)
     unfolding grantsIn combinedAt bestLine
-    by-place true e =
+    by-best true e =
         let b : best (patternsOf l) p ≡ none = best-line-none (patternsOf l) p (P .short-patterns) .0 (rw e) in
         rw b (seen-free ns)
-    by-place false e =
+    by-best false e =
         let b : best (patternsOf l) p ≡ some (getD (patternsOf l) (x .at) []) = best-line-some (patternsOf l) p (P .short-patterns) (x .at) (rw e) in
         let n = eqb-false (x .most) 0 e in
         let along = rw (texts-of l) at (along-first ns (viewOf l) side S (getD (patternsOf l) (x .at) []) (indexOf m (l .methods)) (x .at)) in
         rw (add-one (x .at), b)
-        (ap granted (along (leads (patternsOf l) p .leader (omega arith) .0) refl (leader-first (patternsOf l) p (omega arith)))
-        ∙ granted-at (getD (patternsOf l) (x .at) []) m)
+        (ap granteesOf (along (leads (patternsOf l) p .leader (omega arith) .0) refl (leader-first (patternsOf l) p (omega arith)))
+        ∙ grantees-at (getD (patternsOf l) (x .at) []) m)
 
-    pub grants-place : (a : ℕ) → a ≡ placeOf l p → grantsIn side (length (patternsOf l)) a (indexOf m (l .methods)) ≡ seenBy ns (combinedFor l p m)
-    unfolding placeOf combinedFor
-    grants-place a e = rw e (by-place (eqb (x .most) 0) refl)
+    pub grants-at-best : (a : ℕ) → a ≡ bestIn l p → grantsIn side (length (patternsOf l)) a (indexOf m (l .methods)) ≡ seenBy ns (combinedFor l p m)
+    unfolding bestIn combinedFor
+    grants-at-best a e = rw e (by-best (eqb (x .most) 0) refl)

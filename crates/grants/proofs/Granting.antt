@@ -1,4 +1,4 @@
--- Whom a listing grants at a place, from the table of its side: laws in the shape of the code.
+-- Whom a listing grants at a best line, from the table of its side: laws in the shape of the code.
 use mathlib.Core.Path.{_≡_, refl, sym, ap, ap₂, subst, _∙_}
 use mathlib.Core.Bool.{Bool, true, false, not, cond}
 use mathlib.Core.List.{List}
@@ -12,8 +12,8 @@ use borrow.Author.Tests.{lt-ltb, le-ltb, ne-eqb}
 use Rattle.entries.specs.Sets.{digit}
 use Rattle.deciding.specs.Joinings.{nothingJoined, joinWith}
 use Rattle.deciding.specs.declared.joining.Joined.{Joined}
-use Rattle.grants.specs.Sides.{everyone, accessFrom, accessIn, joinedAlong, granted, grantsIn, listed, rowIn}
-use Rattle.grants.specs.Codes.{codeOf, joinedIn, none, codeFor, joinedWith, grantedAt, Along}
+use Rattle.grants.specs.Sides.{everyone, accessFrom, accessIn, joinedAlong, granteesOf, grantsIn, listed, rosterIn}
+use Rattle.grants.specs.Codes.{codeOf, joinedIn, none, codeFor, joinedWith, granteesAt, Along}
 use Rattle.grants.proofs.Stores.{Filled, fill-start, filled-listed, Mixing, mix-start, mix-more, listed-length, listed-at, listed-same}
 
 -- ---- along the lines with one text
@@ -60,7 +60,7 @@ low-joined : (x c : ℕ) → bitOr x c % 4294967296 ≡ bitOr (x % 4294967296) (
 low-joined x c = or-mod x c 32
 
 -- one constraint more
-join-coded : (x : ℕ) (mark r : ℕ) → r < 4294967296 → joinedIn (bitOr x (codeOf (accessFrom mark r))) ≡ joinWith (joinedIn x) (accessFrom mark r)
+join-coded : (x : ℕ) (number r : ℕ) → r < 4294967296 → joinedIn (bitOr x (codeOf (accessFrom number r))) ≡ joinWith (joinedIn x) (accessFrom number r)
 unfolding joinedIn
 join-coded x zero r h =
     rw (digit-made 32 x 12884901888 refl, digit-kept 34 x 12884901888 refl, digit-made 33 x 12884901888 refl, low-joined x 12884901888, or-zero-r (x % 4294967296))
@@ -75,15 +75,15 @@ join-coded x (suc (suc m)) r h =
 
 -- ---- what a line says
 module _ (side : List ℕ) (k : ℕ) where
-  -- mark 0
+  -- number 0
   pub code-open : getD side (128 + k) 0 ≡ 0 → 12884901888 ≡ codeOf (accessIn side k)
   code-open e = rw e
 
-  -- mark 1
+  -- number 1
   pub code-closed : getD side (128 + k) 0 ≡ 1 → 21474836480 ≡ codeOf (accessIn side k)
   code-closed e = rw e
 
-  -- any other mark
+  -- any other number
   pub code-by-role : (x : ℕ) → (getD side (128 + k) 0 ≡ 0 → ⊥) → (getD side (128 + k) 0 ≡ 1 → ⊥) → x ≡ getD side (256 + k) 0 → 4294967296 + x ≡ codeOf (accessIn side k)
   code-by-role x p q e = go (getD side (128 + k) 0) p q
     where
@@ -101,7 +101,7 @@ module _ (cover code m : ℕ) (l : m < 32) where
   pub code-passed : (cover / 2 ^ (m % 32) % 2 ≡ 1 → ⊥) → 0 ≡ codeFor cover code m
   code-passed t = let d : eqb (digit m cover) 1 ≡ false = ne-eqb (digit m cover) 1 (rw (mod-eq-of-lt l) at t) in rw d
 
--- joined in a row
+-- joined in a roster
 module _ (cover code : ℕ) (before : List ℕ) where
   pub line-start : length before ≡ 32 → Mixing 32 (joinedWith cover code before) before 0 before
   line-start e = mix-start 32 (joinedWith cover code before) before e
@@ -111,125 +111,125 @@ module _ (cover code : ℕ) (before : List ℕ) where
   line-more m v out M h e =
       mix-more 32 (joinedWith cover code before) before m (bitOr (getD out m 0) v) out M h (ap₂ bitOr (M .left m (omega arith)) e)
 
--- ---- the lines from k on are still to be joined in the row
-pub record Joining (side : List ℕ) (n first k : ℕ) (row : List ℕ) : Type 0 where
-  pub size : length row ≡ 32
-  pub due : (m : ℕ) → m < 32 → joinedAlong n side n m first nothingJoined ≡ joinedAlong n side n m k (joinedIn (getD row m 0))
+-- ---- the lines from k on are still to be joined in the roster
+pub record Joining (side : List ℕ) (n first k : ℕ) (roster : List ℕ) : Type 0 where
+  pub size : length roster ≡ 32
+  pub due : (m : ℕ) → m < 32 → joinedAlong n side n m first nothingJoined ≡ joinedAlong n side n m k (joinedIn (getD roster m 0))
 
 module _ (side : List ℕ) (n first : ℕ) where
   -- all of them
-  pub along-start : (row : List ℕ) → row ≡ listed 32 none → Joining side n first first row
+  pub along-start : (roster : List ℕ) → roster ≡ listed 32 none → Joining side n first first roster
   unfolding joinedIn
-  along-start row e =
+  along-start roster e =
       record {
         size = ap length e ∙ listed-length 32 none;
         due = λ m h. ap (λ (x : ℕ). joinedAlong n side n m first (joinedIn x)) (sym (ap (λ (r : List ℕ). getD r m 0) e ∙ listed-at 32 none m h));
       }
 
-  module _ (k : ℕ) (row : List ℕ) (J : Joining side n first k row) where
+  module _ (k : ℕ) (roster : List ℕ) (J : Joining side n first k roster) where
     -- a line more
-    pub along-more : (g code : ℕ) (row′ : List ℕ) → k < n → g ≡ getD side (384 + k) 0 → code ≡ codeOf (accessIn side k) → getD side (256 + k) 0 < 4294967296
-        → row′ ≡ listed 32 (joinedWith (getD side k 0) code row) → Joining side n first (k + 1 + g) row′
-    along-more g code row′ h e f s q =
+    pub along-more : (g code : ℕ) (roster′ : List ℕ) → k < n → g ≡ getD side (384 + k) 0 → code ≡ codeOf (accessIn side k) → getD side (256 + k) 0 < 4294967296
+        → roster′ ≡ listed 32 (joinedWith (getD side k 0) code roster) → Joining side n first (k + 1 + g) roster′
+    along-more g code roster′ h e f s q =
         record {
-          size = ap length q ∙ listed-length 32 (joinedWith (getD side k 0) code row);
-          due = λ m l. J .due m l ∙ along-step side n m n k (joinedIn (getD row m 0)) (omega arith) h
+          size = ap length q ∙ listed-length 32 (joinedWith (getD side k 0) code roster);
+          due = λ m l. J .due m l ∙ along-step side n m n k (joinedIn (getD roster m 0)) (omega arith) h
               ∙ ap₂ (joinedAlong n side n m) (let z : past side k ≡ k + 1 + g = omega arith in z)
               (line m (eqb (digit m (getD side k 0)) 1)
-              ∙ ap (λ (c : ℕ). joinedIn (bitOr (getD row m 0) (cond (eqb (digit m (getD side k 0)) 1) c 0))) (sym f)
-              ∙ ap joinedIn (sym (ap (λ (r : List ℕ). getD r m 0) q ∙ listed-at 32 (joinedWith (getD side k 0) code row) m l)));
+              ∙ ap (λ (c : ℕ). joinedIn (bitOr (getD roster m 0) (cond (eqb (digit m (getD side k 0)) 1) c 0))) (sym f)
+              ∙ ap joinedIn (sym (ap (λ (r : List ℕ). getD r m 0) q ∙ listed-at 32 (joinedWith (getD side k 0) code roster) m l)));
         }
       where
-        line : (m : ℕ) (b : Bool) → cond b (joinWith (joinedIn (getD row m 0)) (accessIn side k)) (joinedIn (getD row m 0))
-            ≡ joinedIn (bitOr (getD row m 0) (cond b (codeOf (accessIn side k)) 0))
-        line m true = sym (join-coded (getD row m 0) (getD side (128 + k) 0) (getD side (256 + k) 0) s)
-        line m false = ap joinedIn (sym (or-zero-r (getD row m 0)))
+        line : (m : ℕ) (b : Bool) → cond b (joinWith (joinedIn (getD roster m 0)) (accessIn side k)) (joinedIn (getD roster m 0))
+            ≡ joinedIn (bitOr (getD roster m 0) (cond b (codeOf (accessIn side k)) 0))
+        line m true = sym (join-coded (getD roster m 0) (getD side (128 + k) 0) (getD side (256 + k) 0) s)
+        line m false = ap joinedIn (sym (or-zero-r (getD roster m 0)))
 
     -- none is left
-    pub along-end : n ≤ k → Along side n first row
-    along-end h = record { size = J .size; all = λ m l. sym (J .due m l ∙ along-last side n m n k (joinedIn (getD row m 0)) h) }
+    pub along-end : n ≤ k → Along side n first roster
+    along-end h = record { size = J .size; all = λ m l. sym (J .due m l ∙ along-last side n m n k (joinedIn (getD roster m 0)) h) }
 
-pub joining-size : (side : List ℕ) (n first k : ℕ) (row : List ℕ) → Joining side n first k row → length row ≡ 32
-joining-size side n first k row J = J .size
+pub joining-size : (side : List ℕ) (n first k : ℕ) (roster : List ℕ) → Joining side n first k roster → length roster ≡ 32
+joining-size side n first k roster J = J .size
 
 -- ---- whom that which is joined grants
 module _ (x : ℕ) where
   -- no constraint: everyone
-  pub granted-none : (x / 4294967296 % 2 ≡ 1 → ⊥) → 18446744073709551615 ≡ granted (joinedIn x)
-  unfolding granted joinedIn
-  granted-none a = rw (ne-eqb (x / 4294967296 % 2) 1 a)
+  pub grantees-none : (x / 4294967296 % 2 ≡ 1 → ⊥) → 18446744073709551615 ≡ granteesOf (joinedIn x)
+  unfolding granteesOf joinedIn
+  grantees-none a = rw (ne-eqb (x / 4294967296 % 2) 1 a)
 
   module _ (a : x / 4294967296 % 2 ≡ 1) where
     -- one that closes: nobody
-    pub granted-closed : x / 17179869184 % 2 ≡ 1 → 0 ≡ granted (joinedIn x)
-    unfolding granted joinedIn
-    granted-closed c = rw (a, c)
+    pub grantees-closed : x / 17179869184 % 2 ≡ 1 → 0 ≡ granteesOf (joinedIn x)
+    unfolding granteesOf joinedIn
+    grantees-closed c = rw (a, c)
 
     module _ (c : x / 17179869184 % 2 ≡ 1 → ⊥) where
       -- one that is `open`: everyone
-      pub granted-free : x / 8589934592 % 2 ≡ 1 → 18446744073709551615 ≡ granted (joinedIn x)
-      unfolding granted joinedIn
-      granted-free f = rw (a, ne-eqb (x / 17179869184 % 2) 1 c, f)
+      pub grantees-free : x / 8589934592 % 2 ≡ 1 → 18446744073709551615 ≡ granteesOf (joinedIn x)
+      unfolding granteesOf joinedIn
+      grantees-free f = rw (a, ne-eqb (x / 17179869184 % 2) 1 c, f)
 
       -- else those with one of the roles
-      pub granted-roles : (x / 8589934592 % 2 ≡ 1 → ⊥) → 4 * (x % 4294967296) ≡ granted (joinedIn x)
-      unfolding granted joinedIn
-      granted-roles f = let l : x % 4294967296 % 4294967296 ≡ x % 4294967296 = omega arith in rw (a, ne-eqb (x / 17179869184 % 2) 1 c, ne-eqb (x / 8589934592 % 2) 1 f, l)
+      pub grantees-roles : (x / 8589934592 % 2 ≡ 1 → ⊥) → 4 * (x % 4294967296) ≡ granteesOf (joinedIn x)
+      unfolding granteesOf joinedIn
+      grantees-roles f = let l : x % 4294967296 % 4294967296 ≡ x % 4294967296 = omega arith in rw (a, ne-eqb (x / 17179869184 % 2) 1 c, ne-eqb (x / 8589934592 % 2) 1 f, l)
 
--- in each number of a row
+-- in each number of a roster
 module _ (before : List ℕ) where
-  pub grant-start : length before ≡ 32 → Mixing 32 (grantedAt before) before 0 before
-  grant-start e = mix-start 32 (grantedAt before) before e
+  pub grant-start : length before ≡ 32 → Mixing 32 (granteesAt before) before 0 before
+  grant-start e = mix-start 32 (granteesAt before) before e
 
-  pub grant-more : (m v : ℕ) (out : List ℕ) → Mixing 32 (grantedAt before) before m out → m < 32 → v ≡ granted (joinedIn (getD out m 0))
-      → Mixing 32 (grantedAt before) before (m + 1) (set out m v)
-  grant-more m v out M h e = mix-more 32 (grantedAt before) before m v out M h (e ∙ ap (λ (x : ℕ). granted (joinedIn x)) (M .left m (omega arith)))
+  pub grant-more : (m v : ℕ) (out : List ℕ) → Mixing 32 (granteesAt before) before m out → m < 32 → v ≡ granteesOf (joinedIn (getD out m 0))
+      → Mixing 32 (granteesAt before) before (m + 1) (set out m v)
+  grant-more m v out M h e = mix-more 32 (granteesAt before) before m v out M h (e ∙ ap (λ (x : ℕ). granteesOf (joinedIn x)) (M .left m (omega arith)))
 
--- ---- a row in which nothing is joined
-pub clear-start : (row : List ℕ) → length row ≡ 32 → Filled 32 32 0 none row
-clear-start row e = fill-start 32 32 none row e (omega arith)
+-- ---- a roster in which nothing is joined
+pub clear-start : (roster : List ℕ) → length roster ≡ 32 → Filled 32 32 0 none roster
+clear-start roster e = fill-start 32 32 none roster e (omega arith)
 
-pub clear-all : (m : ℕ) (row : List ℕ) → Filled 32 32 m none row → 32 ≤ m → row ≡ listed 32 none
-clear-all m row F h = filled-listed 32 m none row F h
+pub clear-all : (m : ℕ) (roster : List ℕ) → Filled 32 32 m none roster → 32 ≤ m → roster ≡ listed 32 none
+clear-all m roster F h = filled-listed 32 m none roster F h
 
-pub clear-size : (row : List ℕ) → row ≡ listed 32 none → length row ≡ 32
-clear-size row e = ap length e ∙ listed-length 32 none
+pub clear-size : (roster : List ℕ) → roster ≡ listed 32 none → length roster ≡ 32
+clear-size roster e = ap length e ∙ listed-length 32 none
 
--- ---- whom the table grants at a place
-module _ (side : List ℕ) (n place : ℕ) (before row : List ℕ) (made : row ≡ listed 32 (grantedAt before)) where
+-- ---- whom the table grants at a best line
+module _ (side : List ℕ) (n line : ℕ) (before roster : List ℕ) (made : roster ≡ listed 32 (granteesAt before)) where
   -- number by number
-  row-by-number : ((m : ℕ) → m < 32 → grantedAt before m ≡ grantsIn side n place m) → row ≡ rowIn side n place
-  unfolding rowIn
-  row-by-number e = made ∙ listed-same 32 (grantedAt before) (grantsIn side n place) e
+  roster-by-number : ((m : ℕ) → m < 32 → granteesAt before m ≡ grantsIn side n line m) → roster ≡ rosterIn side n line
+  unfolding rosterIn
+  roster-by-number e = made ∙ listed-same 32 (granteesAt before) (grantsIn side n line) e
 
   -- no best match: everyone
-  pub row-none : before ≡ listed 32 none → place ≡ 0 → row ≡ rowIn side n place
-  unfolding grantsIn granted joinedIn
-  row-none e z =
-      row-by-number (λ m l. rw z (ap (λ (x : ℕ). granted (joinedIn x)) (ap (λ (r : List ℕ). getD r m 0) e ∙ listed-at 32 none m l)))
+  pub roster-none : before ≡ listed 32 none → line ≡ 0 → roster ≡ rosterIn side n line
+  unfolding grantsIn granteesOf joinedIn
+  roster-none e z =
+      roster-by-number (λ m l. rw z (ap (λ (x : ℕ). granteesOf (joinedIn x)) (ap (λ (r : List ℕ). getD r m 0) e ∙ listed-at 32 none m l)))
 
   -- what its lines come to
-  pub row-line : Along side n (place - 1) before → (place ≡ 0 → ⊥) → row ≡ rowIn side n place
+  pub roster-line : Along side n (line - 1) before → (line ≡ 0 → ⊥) → roster ≡ rosterIn side n line
   unfolding grantsIn
-  row-line A z = row-by-number (λ m l. go m (grantedAt before m) place z (ap granted (A .all m l)))
+  roster-line A z = roster-by-number (λ m l. go m (granteesAt before m) line z (ap granteesOf (A .all m l)))
     where
-      go : (m g p : ℕ) → (p ≡ 0 → ⊥) → g ≡ granted (joinedAlong n side n m (p - 1) nothingJoined) → g ≡ grantsIn side n p m
+      go : (m g p : ℕ) → (p ≡ 0 → ⊥) → g ≡ granteesOf (joinedAlong n side n m (p - 1) nothingJoined) → g ≡ grantsIn side n p m
       go m g zero z e = absurd (z refl)
-      go m g (suc p) z e = let d : suc p - 1 ≡ p = omega arith in e ∙ ap (λ (q : ℕ). granted (joinedAlong n side n m q nothingJoined)) d
+      go m g (suc p) z e = let d : suc p - 1 ≡ p = omega arith in e ∙ ap (λ (q : ℕ). granteesOf (joinedAlong n side n m q nothingJoined)) d
 
--- a row has a set for each method
-pub row-size : (side : List ℕ) (n place : ℕ) (row : List ℕ) → row ≡ rowIn side n place → length row ≡ 32
-unfolding rowIn
-row-size side n place row e = ap length e ∙ listed-length 32 (grantsIn side n place)
+-- a roster has a set for each method
+pub roster-size : (side : List ℕ) (n line : ℕ) (roster : List ℕ) → roster ≡ rosterIn side n line → length roster ≡ 32
+unfolding rosterIn
+roster-size side n line roster e = ap length e ∙ listed-length 32 (grantsIn side n line)
 
--- that of the same place is the same
-pub row-kept : (side : List ℕ) (n had place : ℕ) (row : List ℕ) → row ≡ rowIn side n had → had ≡ place → row ≡ rowIn side n place
-row-kept side n had place row e q = e ∙ ap (rowIn side n) q
+-- that of the same line is the same
+pub roster-kept : (side : List ℕ) (n had line : ℕ) (roster : List ℕ) → roster ≡ rosterIn side n had → had ≡ line → roster ≡ rosterIn side n line
+roster-kept side n had line roster e q = e ∙ ap (rosterIn side n) q
 
 -- ---- a set of callers is a number of 64 digits
-granted-small : (j : Joined) → granted j ≤ everyone
-unfolding granted
-granted-small j = go (not (j .any)) (j .closed) (j .free)
+grantees-small : (j : Joined) → granteesOf j ≤ everyone
+unfolding granteesOf
+grantees-small j = go (not (j .any)) (j .closed) (j .free)
   where
     go : (a b c : Bool) → cond a everyone (cond b 0 (cond c everyone (4 * (j .roles % 4294967296)))) ≤ everyone
     go true b c = omega arith
@@ -237,11 +237,11 @@ granted-small j = go (not (j .any)) (j .closed) (j .free)
     go false false true = omega arith
     go false false false = omega arith
 
-pub grants-small : (side : List ℕ) (n place m : ℕ) → grantsIn side n place m ≤ everyone
+pub grants-small : (side : List ℕ) (n line m : ℕ) → grantsIn side n line m ≤ everyone
 unfolding grantsIn
 grants-small side n zero m = omega arith
-grants-small side n (suc k) m = granted-small (joinedAlong n side n m k nothingJoined)
+grants-small side n (suc k) m = grantees-small (joinedAlong n side n m k nothingJoined)
 
-pub row-small : (side : List ℕ) (n place m : ℕ) → m < 32 → getD (rowIn side n place) m 0 ≤ everyone
-unfolding rowIn
-row-small side n place m h = subst (λ (x : ℕ). x ≤ everyone) (sym (listed-at 32 (grantsIn side n place) m h)) (grants-small side n place m)
+pub roster-small : (side : List ℕ) (n line m : ℕ) → m < 32 → getD (rosterIn side n line) m 0 ≤ everyone
+unfolding rosterIn
+roster-small side n line m h = subst (λ (x : ℕ). x ≤ everyone) (sym (listed-at 32 (grantsIn side n line) m h)) (grants-small side n line m)

@@ -1,4 +1,4 @@
--- What two places come to: the first trial method and the first caller that the tables of numbers give are those that the listings do.
+-- What two best lines come to: the first trial method and the first caller that the tables of numbers give are those that the listings do.
 use mathlib.Core.Path.{_≡_, refl, sym, ap, ap₂, subst, _∙_}
 use mathlib.Core.Bool.{Bool, true, false, cond}
 use mathlib.Core.List.{List, []}
@@ -22,31 +22,31 @@ use Rattle.decisions.specs.Decisions.{combinedFor}
 use Rattle.text.proofs.Truths.{never, not-so}
 use Rattle.trials.specs.Trials.{callersWith, trialMethods}
 use Rattle.trials.specs.Loops.{firstSome, isFresh, shownAt}
-use Rattle.grants.specs.Sides.{everyone, callerAt, placeOf, grantsIn, rowIn, SideOf, PairsOf, Ready}
+use Rattle.grants.specs.Sides.{everyone, callerAt, bestIn, grantsIn, rosterIn, SideOf, PairsOf, Ready}
 use Rattle.grants.specs.Catches.{shownOn, freshIn, caughtFrom, caughtIn, caughtOn}
 use Rattle.grants.specs.declared.judging.Caught.the-variants as C
 use Rattle.grants.proofs.Stores.{listed-at}
 use Rattle.decisions.proofs.Takings.{role-named}
-use Rattle.grants.proofs.Grantees.{seenBy, grants-place}
+use Rattle.grants.proofs.Grantees.{seenBy, grants-at-best}
 use Rattle.grants.proofs.FreshRoles.{caller-by-sets}
 use Rattle.trials.proofs.Turns.{turn-found, turn-on, turn-ends}
 use Rattle.text.proofs.Indices.{index-bound}
 
--- the row of a path's place says whom the listing grants
-row-at : (ns : List Text) → length ns ≤ 32 → (l : Listing) → Proper l → (side : List ℕ) → SideOf ns (viewOf l) side → (p m : Text) (a : ℕ) → a ≡ placeOf l p
-    → getD (rowIn side (length (patternsOf l)) a) (indexOf m (l .methods)) 0 ≡ seenBy ns (combinedFor l p m)
-unfolding rowIn
-row-at ns few l P side S p m a e =
+-- the roster of a path's best line says whom the listing grants
+roster-at : (ns : List Text) → length ns ≤ 32 → (l : Listing) → Proper l → (side : List ℕ) → SideOf ns (viewOf l) side → (p m : Text) (a : ℕ) → a ≡ bestIn l p
+    → getD (rosterIn side (length (patternsOf l)) a) (indexOf m (l .methods)) 0 ≡ seenBy ns (combinedFor l p m)
+unfolding rosterIn
+roster-at ns few l P side S p m a e =
     listed-at 32 (grantsIn side (length (patternsOf l)) a) (indexOf m (l .methods)) (omega (arith, index-bound m (l .methods), P .few-methods))
-    ∙ grants-place ns few l P side S p m a e
+    ∙ grants-at-best ns few l P side S p m a e
 
 module _ (old new : Listing) (O : Proper old) (N : Proper new) (so sn pairs : List ℕ) (count : ℕ) (R : Ready (viewOf old) (viewOf new) so sn pairs count)
-    (p : Text) (u v : ℕ) (in-old : u ≡ placeOf old p) (in-new : v ≡ placeOf new p) where
+    (p : Text) (u v : ℕ) (in-old : u ≡ bestIn old p) (in-new : v ≡ bestIn new p) where
   abbrev ro : List ℕ
-  ro = rowIn so (length (patternsOf old)) u
+  ro = rosterIn so (length (patternsOf old)) u
 
   abbrev rn : List ℕ
-  rn = rowIn sn (length (patternsOf new)) v
+  rn = rosterIn sn (length (patternsOf new)) v
 
   -- what is made ready of the listings' views, by the listings
   side-old : SideOf (new .roles) (viewOf old) so
@@ -76,8 +76,8 @@ module _ (old new : Listing) (O : Proper old) (N : Proper new) (so sn pairs : Li
   fresh-at i h =
       ap₂ (λ (x y : ℕ). bitAnd (getD rn x 0) (everyone - getD ro y 0)) (paired .news i h) (paired .olds i h)
       ∙ ap₂ (λ (x y : ℕ). bitAnd x (everyone - y))
-      (row-at (new .roles) (N .few-roles) new N sn side-new p (method i) v in-new)
-      (row-at (new .roles) (N .few-roles) old O so side-old p (method i) u in-old)
+      (roster-at (new .roles) (N .few-roles) new N sn side-new p (method i) v in-new)
+      (roster-at (new .roles) (N .few-roles) old O so side-old p (method i) u in-old)
 
   -- the first of them
   abbrev caller : ℕ → Caller
@@ -114,7 +114,7 @@ module _ (old new : Listing) (O : Proper old) (N : Proper new) (so sn pairs : Li
       go true q ih = ih ∙ sym (turn-on (shownAt old new p) (trialMethods old new) i [] (omega (arith, counted)) (request-at i (omega arith) ∙ rw q))
       go false q ih = sym (turn-found (shownAt old new p) (trialMethods old new) i [] _ (omega (arith, counted)) (request-at i (omega arith) ∙ rw q))
 
-  -- the request that the places of a path come to is the one to show for the path
+  -- the request that the best lines of a path come to is the one to show for the path
   pub caught-at : caughtOn old new p (caughtIn so (length (patternsOf old)) sn (length (patternsOf new)) pairs count u v) ≡ shownOn old new p
   unfolding caughtIn shownOn
   caught-at = caught-from count 0 (omega arith)

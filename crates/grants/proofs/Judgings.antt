@@ -1,4 +1,4 @@
--- The first trial method and caller of two rows, as the loop over the methods meets them; then of two places.
+-- The first trial method and caller of two rosters, as the loop over the methods meets them; then of two best lines.
 use mathlib.Core.Path.{_≡_, sym, ap, _∙_}
 use mathlib.Core.Bool.{cond}
 use mathlib.Core.List.{List}
@@ -9,7 +9,7 @@ use lib.Dec.{eqb}
 use lib.Bits.{bitAnd}
 use lib.Count.{trailingZeros}
 use borrow.Author.Tests.{ne-eqb}
-use Rattle.grants.specs.Sides.{everyone, rowIn, PairsFit}
+use Rattle.grants.specs.Sides.{everyone, rosterIn, PairsFit}
 use Rattle.grants.specs.Catches.{freshIn, caughtFrom, caughtIn}
 use Rattle.grants.specs.declared.judging.Caught.{Caught}
 use Rattle.grants.specs.declared.judging.Caught.the-variants as C
@@ -43,7 +43,7 @@ module _ (ro rn pairs : List ℕ) (count : ℕ) where
         L .due ∙ ap (λ (k : ℕ). caughtFrom ro rn pairs k i) e
 
     module _ (a b : ℕ) (h : i < count) (p : a ≡ getD pairs i 0) (q : b ≡ getD pairs (64 + i) 0) where
-      -- it has a caller whom the one row grants and the other does not
+      -- it has a caller whom the one roster grants and the other does not
       pub look-found : (bitAnd (getD rn b 0) (everyone - getD ro a 0) ≡ 0 → ⊥)
           → C.At i (trailingZeros 64 (bitAnd (getD rn b 0) (everyone - getD ro a 0))) ≡ caughtFrom ro rn pairs count 0
       look-found n = sym (look-step h ∙ rw (← p, ← q, ne-eqb (bitAnd (getD rn b 0) (everyone - getD ro a 0)) 0 n))
@@ -57,8 +57,8 @@ module _ (ro rn pairs : List ℕ) (count : ℕ) where
     unfolding caughtFrom
     look-end h = let e : count - i ≡ 0 = omega arith in sym (L .due ∙ ap (λ (k : ℕ). caughtFrom ro rn pairs k i) e)
 
--- ---- of two places: their rows are judged
-pub places-judged : (so sn pairs ro rn : List ℕ) (o n count u v : ℕ) (r : Caught) → ro ≡ rowIn so o u → rn ≡ rowIn sn n v → r ≡ caughtFrom ro rn pairs count 0
+-- ---- of two best lines: their rosters are judged
+pub lines-judged : (so sn pairs ro rn : List ℕ) (o n count u v : ℕ) (r : Caught) → ro ≡ rosterIn so o u → rn ≡ rosterIn sn n v → r ≡ caughtFrom ro rn pairs count 0
     → r ≡ caughtIn so o sn n pairs count u v
 unfolding caughtIn
-places-judged so sn pairs ro rn o n count u v r p q e = rw (← p, ← q) e
+lines-judged so sn pairs ro rn o n count u v r p q e = rw (← p, ← q) e

@@ -17,7 +17,7 @@ use Rattle.decisions.specs.Matching.{isUnder, hasExtension, kindMatches}
 use Rattle.matching.specs.Strengths.{kindStrength, strength, startLeading, leadBy}
 use Rattle.matching.specs.declared.Leading.{Leading}
 use Rattle.decisions.proofs.Bests.{under-plain}
-use Rattle.grants.specs.Scratch.{placed, belowStrength, stemStrength, leadingBy, stemPlace}
+use Rattle.grants.specs.Scratch.{bestNumber, belowStrength, stemStrength, leadingBy, stemBest}
 
 -- ---- one text more
 -- a stronger text leads
@@ -84,7 +84,7 @@ module _ (g : Text → ℕ) where
                 pick-most true = k
                 pick-most false = h
 
-    pub strongest-first : (us : List Text) → 3 ≤ g t → Strongest us → member t us ≡ true → placed (leadingBy g us) ≡ 2 * (indexOf t us + 1) + 1
+    pub strongest-first : (us : List Text) → 3 ≤ g t → Strongest us → member t us ≡ true → bestNumber (leadingBy g us) ≡ 2 * (indexOf t us + 1) + 1
     unfolding leadingBy
     strongest-first us h s m =
         let r = led-first us startLeading (omega arith) s m in
@@ -97,8 +97,8 @@ module _ (ts : List Text) (short : (u : Text) → List·Memᴰ u ts → length u
   other-kind u k e n d h = never (same u t) (rw (one-text u t k h e n) (same-self t)) d
 
   -- of an exact pattern
-  pub own-exact : (q : Text) → kindOf t ≡ exact q → stemPlace ts (kindOf t) ≡ 2 * (indexOf t ts + 1) + 1
-  unfolding stemPlace stemStrength strength kindMatches
+  pub own-exact : (q : Text) → kindOf t ≡ exact q → stemBest ts (kindOf t) ≡ 2 * (indexOf t ts + 1) + 1
+  unfolding stemBest stemStrength strength kindMatches
   own-exact q e = rw e (strongest-first (stemStrength (exact q)) t ts (omega (arith, own)) others there)
     where
       own : stemStrength (exact q) t ≡ 1000
@@ -126,8 +126,8 @@ module _ (ts : List Text) (short : (u : Text) → List·Memᴰ u ts → length u
           go unpermitted i s = omega arith
 
   -- of a prefix
-  pub own-prefix : (p : Text) → kindOf t ≡ prefix p → stemPlace ts (kindOf t) ≡ 2 * (indexOf t ts + 1) + 1
-  unfolding stemPlace stemStrength isUnder
+  pub own-prefix : (p : Text) → kindOf t ≡ prefix p → stemBest ts (kindOf t) ≡ 2 * (indexOf t ts + 1) + 1
+  unfolding stemBest stemStrength isUnder
   own-prefix p e = rw e (strongest-first (stemStrength (prefix p)) t ts (omega (arith, own)) others there)
     where
       own : stemStrength (prefix p) t ≡ 3 + length p
@@ -155,10 +155,10 @@ module _ (ts : List Text) (short : (u : Text) → List·Memᴰ u ts → length u
           go unpermitted i = omega arith
 
   -- of either
-  pub own-first : 3 ≤ kindStrength (kindOf t) → stemPlace ts (kindOf t) ≡ 2 * (indexOf t ts + 1) + 1
+  pub own-first : 3 ≤ kindStrength (kindOf t) → stemBest ts (kindOf t) ≡ 2 * (indexOf t ts + 1) + 1
   own-first h = go (kindOf t) refl h
     where
-      go : (k : PatternKind) → kindOf t ≡ k → 3 ≤ kindStrength k → stemPlace ts (kindOf t) ≡ 2 * (indexOf t ts + 1) + 1
+      go : (k : PatternKind) → kindOf t ≡ k → 3 ≤ kindStrength k → stemBest ts (kindOf t) ≡ 2 * (indexOf t ts + 1) + 1
       go (exact q) e l = own-exact q e
       go (prefix p) e l = own-prefix p e
       go (extension d) e l = absurd (omega arith)

@@ -1,4 +1,4 @@
--- Whoever is caught may be shown: one who is not logged in, or one with a role of new, never one who is logged in without a role. It is so of every two views, whatever they are views of: a set in a row is
+-- Whoever is caught may be shown: one who is not logged in, or one with a role of new, never one who is logged in without a role. It is so of every two views, whatever they are views of: a set in a roster is
 -- all callers, or those with some of the roles.
 use mathlib.Core.Path.{_≡_, refl, ap, ap₂, subst, _∙_}
 use mathlib.Core.Bool.{Bool, true, false, not, cond}
@@ -19,7 +19,7 @@ use Rattle.entries.specs.Sets.{digit}
 use Rattle.reading.specs.Views.{View, texts, accessAt}
 use Rattle.deciding.specs.Joinings.{nothingJoined, joinWith}
 use Rattle.deciding.specs.declared.joining.Joined.{Joined}
-use Rattle.grants.specs.Sides.{everyone, Showable, accessRoles, granted, SideOf, accessFrom, joinedAlong, grantsIn, listed, rowIn}
+use Rattle.grants.specs.Sides.{everyone, Showable, accessRoles, granteesOf, SideOf, accessFrom, joinedAlong, grantsIn, listed, rosterIn}
 use Rattle.grants.specs.Catches.{freshIn, caughtFrom, caughtIn}
 use Rattle.grants.specs.declared.judging.Caught.{Caught}
 use Rattle.grants.specs.declared.judging.Caught.the-variants as C
@@ -34,7 +34,7 @@ isMissed : Caught → Bool
 isMissed C.Nothing = true
 isMissed (C.At m d) = false
 
--- ---- what stands in a row
+-- ---- what stands in a roster
 -- all callers, or those with some of k roles
 abbrev Grants : ℕ → ℕ → Type 0
 Grants k g = (g ≡ everyone) ⊎ ((r : ℕ) × (g ≡ 4 * r) × (r < 2 ^ k))
@@ -45,11 +45,11 @@ grants-none k x h = inr (0, refl, omega arith)
 
 module _ (k : ℕ) (side : List ℕ) (n : ℕ) (each : (i : ℕ) → i < n → getD side (256 + i) 0 < 2 ^ k) (m : ℕ) where
   -- the roles that are joined
-  with-below : (b : Bool) (j : Joined) (mark x : ℕ) → j .roles < 2 ^ k → x < 2 ^ k → cond b (joinWith j (accessFrom mark x)) j .roles < 2 ^ k
-  with-below false j mark x h l = h
+  with-below : (b : Bool) (j : Joined) (number x : ℕ) → j .roles < 2 ^ k → x < 2 ^ k → cond b (joinWith j (accessFrom number x)) j .roles < 2 ^ k
+  with-below false j number x h l = h
   with-below true j zero x h l = h
   with-below true j (suc zero) x h l = h
-  with-below true j (suc (suc mark)) x h l = or-lt k (j .roles) x h l
+  with-below true j (suc (suc number)) x h l = or-lt k (j .roles) x h l
 
   along-below : (f i : ℕ) (j : Joined) → j .roles < 2 ^ k → joinedAlong f side n m i j .roles < 2 ^ k
   unfolding joinedAlong
@@ -65,9 +65,9 @@ module _ (k : ℕ) (side : List ℕ) (n : ℕ) (each : (i : ℕ) → i < n → g
       go false e ih = h
 
   -- whom they grant
-  granted-so : (j : Joined) → j .roles < 2 ^ k → Grants k (granted j)
-  unfolding granted
-  granted-so j h = go (j .any) (j .closed) (j .free)
+  grantees-so : (j : Joined) → j .roles < 2 ^ k → Grants k (granteesOf j)
+  unfolding granteesOf
+  grantees-so j h = go (j .any) (j .closed) (j .free)
     where
       go : (a b c : Bool) → Grants k (cond (not a) everyone (cond b 0 (cond c everyone (4 * (j .roles % 4294967296)))))
       go false b c = inl refl
@@ -78,7 +78,7 @@ module _ (k : ℕ) (side : List ℕ) (n : ℕ) (each : (i : ℕ) → i < n → g
   grants-so : (a : ℕ) → 0 < 2 ^ k → Grants k (grantsIn side n a m)
   unfolding grantsIn
   grants-so zero h = inl refl
-  grants-so (suc i) h = granted-so (joinedAlong n side n m i nothingJoined) (along-below n i nothingJoined h)
+  grants-so (suc i) h = grantees-so (joinedAlong n side n m i nothingJoined) (along-below n i nothingJoined h)
 
 listed-each : (P : ℕ → Type 0) (k : ℕ) (f : ℕ → ℕ) → P 0 → ((i : ℕ) → P (f i)) → (b : ℕ) → P (getD (listed k f) b 0)
 unfolding listed
@@ -146,9 +146,9 @@ module _ (ns : List Text) (few : length ns ≤ 32) where
     roles-below : (i : ℕ) → i < length (texts v) → getD side (256 + i) 0 < 2 ^ k
     roles-below i h = rw (S .lines i h .roles) (renumbered-below ns (v .roles) few (accessRoles (accessAt v i)))
 
-    row-so : (a b : ℕ) → Grants k (getD (rowIn side (length (texts v)) a) b 0)
-    unfolding rowIn
-    row-so a b =
+    roster-so : (a b : ℕ) → Grants k (getD (rosterIn side (length (texts v)) a) b 0)
+    unfolding rosterIn
+    roster-so a b =
         let some : 0 < 2 ^ k = set-some in
         listed-each (Grants k) 32 (grantsIn side (length (texts v)) a) (grants-none k 0 some) (λ m. grants-so k side (length (texts v)) roles-below m a some) b
       where
@@ -156,23 +156,23 @@ module _ (ns : List Text) (few : length ns ≤ 32) where
         set-some = let z : 2 ^ 0 ≤ 2 ^ k = pow-mono {i = 0} {j = k} (omega arith) in omega arith
 
   module _ (old new : View) (so sn : List ℕ) (O : SideOf ns old so) (N : SideOf ns new sn) (pairs : List ℕ) (u v m d : ℕ) where
-    from-so : (count i : ℕ) → caughtFrom (rowIn so (length (texts old)) u) (rowIn sn (length (texts new)) v) pairs count i ≡ C.At m d → Showable ns d
+    from-so : (count i : ℕ) → caughtFrom (rosterIn so (length (texts old)) u) (rosterIn sn (length (texts new)) v) pairs count i ≡ C.At m d → Showable ns d
     unfolding caughtFrom isMissed callerIn
     from-so zero i e = absurd (never true refl (ap isMissed e))
     from-so (suc count) i e = go (eqb (freshIn ro rn pairs i) 0) refl (from-so count (i + 1)) e
       where
         ro : List ℕ
-        ro = rowIn so (length (texts old)) u
+        ro = rosterIn so (length (texts old)) u
 
         rn : List ℕ
-        rn = rowIn sn (length (texts new)) v
+        rn = rosterIn sn (length (texts new)) v
 
         go : (b : Bool) → eqb (freshIn ro rn pairs i) 0 ≡ b → (caughtFrom ro rn pairs count (i + 1) ≡ C.At m d → Showable ns d)
             → cond b (caughtFrom ro rn pairs count (i + 1)) (C.At i (trailingZeros 64 (freshIn ro rn pairs i))) ≡ C.At m d → Showable ns d
         go true e ih q = ih q
         go false e ih q =
             subst (Showable ns) (ap callerIn q)
-            (fresh-so (getD rn (getD pairs (64 + i) 0) 0) (getD ro (getD pairs i 0) 0) (row-so new sn N v (getD pairs (64 + i) 0)) (row-so old so O u (getD pairs i 0)) (eqb-false (freshIn ro rn pairs i) 0 e))
+            (fresh-so (getD rn (getD pairs (64 + i) 0) 0) (getD ro (getD pairs i 0) 0) (roster-so new sn N v (getD pairs (64 + i) 0)) (roster-so old so O u (getD pairs i 0)) (eqb-false (freshIn ro rn pairs i) 0 e))
 
     -- so of the best lines of a path
     pub caught-showable : (count : ℕ) → caughtIn so (length (texts old)) sn (length (texts new)) pairs count u v ≡ C.At m d → Showable ns d

@@ -16,8 +16,8 @@ use Rattle.decisions.specs.Matching.{isUnder, kindMatches}
 use Rattle.matching.specs.Strengths.{kindStrength, strength, startLeading, leadBy, lead, leading}
 use Rattle.matching.specs.declared.Leading.{Leading}
 use Rattle.trials.specs.Trials.{below, dotted}
-use Rattle.grants.specs.Sides.{placeIn, isFirm}
-use Rattle.grants.specs.Scratch.{placed, lineIn, isFirmIn, staying, belowStrength, endStrength, stemStrength, leadingBy, stemPlace, stemPath}
+use Rattle.grants.specs.Sides.{lineNumber, isFirm}
+use Rattle.grants.specs.Scratch.{bestNumber, lineIn, isFirmIn, staying, belowStrength, endStrength, stemStrength, leadingBy, stemBest, stemPath}
 use Rattle.trials.proofs.Insides.{starts-itself}
 use Rattle.trials.proofs.Unders.{under-trans, under-root}
 use Rattle.trials.proofs.Endings.{extension-bytes, plain-none, dotted-tail, dotted-one}
@@ -27,8 +27,8 @@ use Rattle.grants.proofs.OwnStems.{by-more, by-less}
 
 -- ---- a best line as a number
 -- its number from 1
-pub line-placed : (z : Leading) → lineIn (placed z) ≡ placeIn z
-line-placed z = go (eqb (z .most) 0) (leb 3 (z .most))
+pub line-of-best : (z : Leading) → lineIn (bestNumber z) ≡ lineNumber z
+line-of-best z = go (eqb (z .most) 0) (leb 3 (z .most))
   where
     go : (a b : Bool) → cond a 0 (2 * (z .at + 1) + cond b 1 0) / 2 ≡ cond a 0 (z .at + 1)
     go true b = refl
@@ -36,8 +36,8 @@ line-placed z = go (eqb (z .most) 0) (leb 3 (z .most))
     go false false = omega arith
 
 -- and whether it is firm
-pub firm-placed : (z : Leading) → isFirmIn (placed z) ≡ isFirm z
-firm-placed z = go (eqb (z .most) 0) (leb 3 (z .most)) refl refl
+pub firm-best : (z : Leading) → isFirmIn (bestNumber z) ≡ isFirm z
+firm-best z = go (eqb (z .most) 0) (leb 3 (z .most)) refl refl
   where
     go : (a b : Bool) → eqb (z .most) 0 ≡ a → leb 3 (z .most) ≡ b → eqb (cond a 0 (2 * (z .at + 1) + cond b 1 0) % 2) 1 ≡ b
     go true true e h = let i = eqb-true (z .most) 0 e in let j = leb-true 3 (z .most) h in absurd (omega arith)
@@ -130,39 +130,39 @@ module _ (f : Text) (ts : List Text) (F : Filler f ts) where
         go unpermitted = refl
 
   -- ---- the best line of a stem is that of its path
-  abbrev Placed : PatternKind → Type 0
-  Placed k = stemPlace ts k ≡ placed (leading ts (stemPath f k))
+  abbrev BestThere : PatternKind → Type 0
+  BestThere k = stemBest ts k ≡ bestNumber (leading ts (stemPath f k))
 
-  stem-alike : (k : PatternKind) → ((u : Text) → List·Memᴰ u ts → stemStrength k u ≡ strength u (stemPath f k)) → Placed k
-  unfolding stemPlace leadingBy leading
-  stem-alike k h = ap placed (led-alike (stemStrength k) (stemPath f k) ts startLeading h)
+  stem-alike : (k : PatternKind) → ((u : Text) → List·Memᴰ u ts → stemStrength k u ≡ strength u (stemPath f k)) → BestThere k
+  unfolding stemBest leadingBy leading
+  stem-alike k h = ap bestNumber (led-alike (stemStrength k) (stemPath f k) ts startLeading h)
 
-  pub exact-placed : (q : Text) → Placed (exact q)
+  pub exact-best : (q : Text) → BestThere (exact q)
   unfolding stemStrength
-  exact-placed q = stem-alike (exact q) (λ u m. refl)
+  exact-best q = stem-alike (exact q) (λ u m. refl)
 
-  pub prefix-placed : (p : Text) → Placed (prefix p)
+  pub prefix-best : (p : Text) → BestThere (prefix p)
   unfolding stemStrength
-  prefix-placed p = stem-alike (prefix p) (below-strength p)
+  prefix-best p = stem-alike (prefix p) (below-strength p)
 
-  pub extension-placed : (e : Text) → has dot e ≡ false → has slash e ≡ false → Placed (extension e)
+  pub extension-best : (e : Text) → has dot e ≡ false → has slash e ≡ false → BestThere (extension e)
   unfolding stemStrength
-  extension-placed e d s = stem-alike (extension e) (end-strength e d s)
+  extension-best e d s = stem-alike (extension e) (end-strength e d s)
 
   -- of a default line, and of the last
-  pub last-placed : Placed default
+  pub last-best : BestThere default
   unfolding stemStrength
-  last-placed = stem-alike default (below-strength [])
+  last-best = stem-alike default (below-strength [])
 
   -- of every pattern
-  pub stem-placed : (t : Text) → isPermitted (kindOf t) ≡ true → Placed (kindOf t)
-  stem-placed t h = go (kindOf t) refl h
+  pub stem-best : (t : Text) → isPermitted (kindOf t) ≡ true → BestThere (kindOf t)
+  stem-best t h = go (kindOf t) refl h
     where
-      go : (k : PatternKind) → kindOf t ≡ k → isPermitted k ≡ true → Placed k
-      go (exact q) e p = exact-placed q
-      go (prefix q) e p = prefix-placed q
-      go (extension d) e p = let s = extension-plain t d e in extension-placed d (s .0) (s .1)
-      go default e p = last-placed
+      go : (k : PatternKind) → kindOf t ≡ k → isPermitted k ≡ true → BestThere k
+      go (exact q) e p = exact-best q
+      go (prefix q) e p = prefix-best q
+      go (extension d) e p = let s = extension-plain t d e in extension-best d (s .0) (s .1)
+      go default e p = last-best
       go unpermitted e p = absurd (never false p refl)
 
 -- ---- an extension behind a prefix: the choice on three paths
@@ -235,11 +235,11 @@ module _ (f : Text) (ts : List Text) (F : Filler f ts) (p e : Text) (root : isUn
   near = near-all (below p f) (dotted p f e) (dotted [] f e) ts startLeading startLeading startLeading (inr (omega arith, (omega arith, (refl, refl)))) kept-text
 
   -- where the prefix's best line is firm it stays, and else it is that of the extension
-  near-stays : (x y z : Leading) → Near x y z → staying (placed x) (placed z) ≡ placed y
-  near-stays x y z (inl n) = stays-firm (placed x) (placed z) (firm-placed x ∙ le-leb 3 (x .most) (n .0)) ∙ ap placed (sym (n .1))
-  near-stays x y z (inr n) = stays-not (placed x) (placed z) (firm-placed x ∙ lt-leb 3 (x .most) (n .0)) ∙ ap placed (sym (n .1 .1 .0))
+  near-stays : (x y z : Leading) → Near x y z → staying (bestNumber x) (bestNumber z) ≡ bestNumber y
+  near-stays x y z (inl n) = stays-firm (bestNumber x) (bestNumber z) (firm-best x ∙ le-leb 3 (x .most) (n .0)) ∙ ap bestNumber (sym (n .1))
+  near-stays x y z (inr n) = stays-not (bestNumber x) (bestNumber z) (firm-best x ∙ lt-leb 3 (x .most) (n .0)) ∙ ap bestNumber (sym (n .1 .1 .0))
 
-  pub behind-placed : staying (stemPlace ts (prefix p)) (stemPlace ts (extension e)) ≡ placed (leading ts (dotted p f e))
-  behind-placed =
-      ap₂ staying (prefix-placed f ts F p) (extension-placed f ts F e no-dot no-slash)
+  pub behind-best : staying (stemBest ts (prefix p)) (stemBest ts (extension e)) ≡ bestNumber (leading ts (dotted p f e))
+  behind-best =
+      ap₂ staying (prefix-best f ts F p) (extension-best f ts F e no-dot no-slash)
       ∙ near-stays (leading ts (below p f)) (leading ts (dotted p f e)) (leading ts (dotted [] f e)) near

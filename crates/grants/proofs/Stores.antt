@@ -1,4 +1,4 @@
--- A table that a loop fills place by place.
+-- A table that a loop fills number by number.
 use mathlib.Core.Path.{_≡_, refl, sym, ap, ap₂, _∙_}
 use mathlib.Core.List.{List, _∷_}
 use Prim.Native.Nat.{ℕ, zero, suc, _+_, _≤_, _<_}
@@ -31,7 +31,7 @@ module _ (z n : ℕ) (f : ℕ → ℕ) (out : List ℕ) where
   pub fill-all : (k m : ℕ) → Filled z n k f out → n ≤ k → n ≡ m → (length out ≡ z) × ((j : ℕ) → j < m → getD out j 0 ≡ f j)
   fill-all k m F h e = (F .size, λ j l. F .below j (omega arith))
 
--- ---- a table that is changed in place: the first m numbers are done, the others as they were
+-- ---- a table that is changed where it stands: the first m numbers are done, the others as they were
 pub record Mixing (z : ℕ) (f : ℕ → ℕ) (before : List ℕ) (m : ℕ) (out : List ℕ) : Type 0 where
   pub done : Filled z z m f out
   pub left : (k : ℕ) → m ≤ k → getD out k 0 ≡ getD before k 0
@@ -55,7 +55,7 @@ unfolding listed
 listed-length zero f = refl
 listed-length (suc k) f = ap suc (listed-length k (λ i. f (suc i)))
 
--- f i stands at place i
+-- f i stands at index i
 pub listed-at : (k : ℕ) (f : ℕ → ℕ) (i : ℕ) → i < k → getD (listed k f) i 0 ≡ f i
 unfolding listed
 listed-at zero f i h = absurd (omega arith)
@@ -73,6 +73,6 @@ pub filled-listed : (z k : ℕ) (f : ℕ → ℕ) (out : List ℕ) → Filled z 
 filled-listed z k f out F l =
     ext-getD 0 out (listed z f) (F .size ∙ sym (listed-length z f)) (λ i h. let q : i < z = omega (arith, F .size) in F .below i (omega arith) ∙ sym (listed-at z f i q))
 
--- and so is one that was changed in place
+-- and so is one that was changed where it stands
 pub mixed-listed : (z m : ℕ) (f : ℕ → ℕ) (before out : List ℕ) → Mixing z f before m out → z ≤ m → out ≡ listed z f
 mixed-listed z m f before out M h = filled-listed z m f out (M .done) h

@@ -11,7 +11,7 @@ use Rattle.reading.specs.declared.held.Access.{Access}
 use Rattle.reading.specs.declared.held.Access.the-variants.{Open, Closed, ByRole}
 use Rattle.deciding.specs.Joinings.{nothingJoined}
 use Rattle.deciding.specs.declared.joining.Joined.{Joined}
-use Rattle.grants.specs.Sides.{granted, joinedAlong}
+use Rattle.grants.specs.Sides.{granteesOf, joinedAlong}
 
 -- what a constraint says
 abbrev pub codeOf : Access → ℕ
@@ -29,7 +29,7 @@ joinedIn x =
       roles = x % 4294967296;
     }
 
--- ---- in a row, for each method
+-- ---- in a roster, for each method
 abbrev pub none : ℕ → ℕ
 none m = 0
 
@@ -38,12 +38,12 @@ abbrev pub codeFor : ℕ → ℕ → ℕ → ℕ
 codeFor cover code m = cond (eqb (digit m cover) 1) code 0
 
 abbrev pub joinedWith : ℕ → ℕ → List ℕ → ℕ → ℕ
-joinedWith cover code row m = bitOr (getD row m 0) (codeFor cover code m)
+joinedWith cover code roster m = bitOr (getD roster m 0) (codeFor cover code m)
 
-abbrev pub grantedAt : List ℕ → ℕ → ℕ
-grantedAt row m = granted (joinedIn (getD row m 0))
+abbrev pub granteesAt : List ℕ → ℕ → ℕ
+granteesAt roster m = granteesOf (joinedIn (getD roster m 0))
 
--- the lines with the text of line `first`, from there on, are joined in the row; n lines in all
-pub record Along (side : List ℕ) (n first : ℕ) (row : List ℕ) : Type 0 where
-  pub size : length row ≡ 32
-  pub all : (m : ℕ) → m < 32 → joinedIn (getD row m 0) ≡ joinedAlong n side n m first nothingJoined
+-- the lines with the text of line `first`, from there on, are joined in the roster; n lines in all
+pub record Along (side : List ℕ) (n first : ℕ) (roster : List ℕ) : Type 0 where
+  pub size : length roster ≡ 32
+  pub all : (m : ℕ) → m < 32 → joinedIn (getD roster m 0) ≡ joinedAlong n side n m first nothingJoined

@@ -24,7 +24,7 @@ oldSide x = part 0 512 x
 abbrev pub newSide : List ℕ → List ℕ
 newSide x = part 512 1024 x
 
--- the trial methods: new's numbers, and 64 places on old's
+-- the trial methods: new's numbers, and 64 numbers on old's
 abbrev pub pairsIn : List ℕ → List ℕ
 pairsIn x = part 1024 1152 x
 
@@ -39,8 +39,8 @@ abbrev pub sortAt : List ℕ → ℕ → ℕ
 sortAt x j = getD x (1666 + j) 0
 
 -- ---- a best line as a number: 0 where nothing matches, else twice its number from 1, and one more where it is firm (a prefix or an exact one)
-abbrev pub placed : Leading → ℕ
-placed x = cond (eqb (x .most) 0) 0 (2 * (x .at + 1) + cond (leb 3 (x .most)) 1 0)
+abbrev pub bestNumber : Leading → ℕ
+bestNumber x = cond (eqb (x .most) 0) 0 (2 * (x .at + 1) + cond (leb 3 (x .most)) 1 0)
 
 -- its number from 1, 0 where there is none
 abbrev pub lineIn : ℕ → ℕ
@@ -98,9 +98,9 @@ unfolding run
 leadingBy g ts = run (λ (x : Leading) (u : Text). leadBy x (g u)) startLeading ts
 
 -- the best line among ts of the stem of a pattern of kind k
-unfoldable pub stemPlace : List Text → PatternKind → ℕ
+unfoldable pub stemBest : List Text → PatternKind → ℕ
 unfolding leadingBy stemStrength
-stemPlace ts k = placed (leadingBy (stemStrength k) ts)
+stemBest ts k = bestNumber (leadingBy (stemStrength k) ts)
 
 -- the path of the stem
 abbrev pub stemPath : Text → PatternKind → Text
@@ -117,8 +117,8 @@ textsOf old new = texts new ++ texts old
 
 -- the numbers of a stem of kind k
 pub record StemIn (old new : View) (x : List ℕ) (j : ℕ) (k : PatternKind) : Type 0 where
-  pub in-old : inOld x j ≡ stemPlace (texts old) k
-  pub in-new : inNew x j ≡ stemPlace (texts new) k
+  pub in-old : inOld x j ≡ stemBest (texts old) k
+  pub in-new : inNew x j ≡ stemBest (texts new) k
 
 -- the scratch x, with its counts c, has the numbers of both views
 pub record Numbered (old new : View) (x : List ℕ) (c : Counts) : Type 0 where

@@ -1,4 +1,4 @@
--- A listing as the program sees it while it compares: best matches as places, callers and methods as numbers, what is granted as a set of
+-- A listing as the program sees it while it compares: best matches as line numbers, callers and methods as numbers, what is granted as a set of
 -- callers. For the proofs alone, which show that it is what the listing decides.
 use Prim.Native.Nat.{ℕ, zero, suc, _+_, _*_, _%_, _≤_, _<_}
 use mathlib.Core.Path.{_≡_}
@@ -12,29 +12,29 @@ use Rattle.entries.specs.Sets.{setOf, digit}
 use Rattle.reading.specs.Views.{View, texts, coverAt, accessAt}
 use Rattle.reading.specs.declared.held.Access.{Access}
 use Rattle.reading.specs.declared.held.Access.the-variants.{Open, Closed, ByRole}
-use Rattle.decisions.specs.Requests.{Caller, nobody, holder}
+use Rattle.decisions.specs.Requests.{Caller, nobody, loggedIn}
 use Rattle.matching.specs.Strengths.{leading}
 use Rattle.deciding.specs.Joinings.{nothingJoined, joinWith}
 use Rattle.matching.specs.declared.Leading.{Leading}
 use Rattle.deciding.specs.declared.joining.Joined.{Joined}
 use Rattle.trials.specs.Trials.{one, methodsTried}
 
--- ---- places: 0 where a path has no best match, else the number of its line, from 1
-abbrev pub placeIn : Leading → ℕ
-placeIn x = cond (eqb (x .most) 0) 0 (x .at + 1)
+-- ---- line numbers: 0 where a path has no best match, else the number of its line, from 1
+abbrev pub lineNumber : Leading → ℕ
+lineNumber x = cond (eqb (x .most) 0) 0 (x .at + 1)
 
 -- the best match is a prefix, or exact
 abbrev pub isFirm : Leading → Bool
 isFirm x = leb 3 (x .most)
 
-unfoldable pub placeOf : Listing → Text → ℕ
+unfoldable pub bestIn : Listing → Text → ℕ
 unfolding leading patternsOf
-placeOf l path = placeIn (leading (patternsOf l) path)
+bestIn l path = lineNumber (leading (patternsOf l) path)
 
 -- ---- callers: 0 is not logged in, 1 is logged in without a role, i + 2 has role i of new, whose names are ns
 abbrev pub callerAt : List Text → ℕ → Caller
 callerAt ns zero = nobody
-callerAt ns (suc zero) = holder []
+callerAt ns (suc zero) = loggedIn []
 callerAt ns (suc (suc i)) = one (getD ns i [])
 
 -- c is the number of one who may be shown: not logged in, or with a role; never logged in without one
@@ -53,18 +53,18 @@ renumbered ns os x =
     setOf 32 (λ i. ltb i (length ns) && (ltb (indexOf (getD ns i []) os) (length os) && eqb (digit (indexOf (getD ns i []) os) x) 1))
 
 -- whom that which is joined grants
-unfoldable pub granted : Joined → ℕ
-granted j = cond (not (j .any)) everyone (cond (j .closed) 0 (cond (j .free) everyone (4 * (j .roles % 4294967296))))
+unfoldable pub granteesOf : Joined → ℕ
+granteesOf j = cond (not (j .any)) everyone (cond (j .closed) 0 (cond (j .free) everyone (4 * (j .roles % 4294967296))))
 
 -- with the roles in the numbers of ns
 abbrev pub seenJoined : List Text → View → Joined → Joined
 seenJoined ns v j = record { any = j .any; closed = j .closed; free = j .free; roles = renumbered ns (v .roles) (j .roles) }
 
--- ---- the table of a side, which is made of a view: for each `pattern` line k its cover, its mark, its roles, and how many lines stand between it and the next with its text
-abbrev pub accessMark : Access → ℕ
-accessMark Open = 0
-accessMark Closed = 1
-accessMark (ByRole x) = 2
+-- ---- the table of a side, which is made of a view: for each `pattern` line k its cover, its access, its roles, and how many lines stand between it and the next with its text
+abbrev pub accessNumber : Access → ℕ
+accessNumber Open = 0
+accessNumber Closed = 1
+accessNumber (ByRole x) = 2
 
 abbrev pub accessRoles : Access → ℕ
 accessRoles Open = 0
@@ -78,7 +78,7 @@ gapAt v k = indexOf (getD (texts v) k []) (drop (k + 1) (texts v))
 
 pub record LineIn (ns : List Text) (v : View) (side : List ℕ) (k : ℕ) : Type 0 where
   pub cover : getD side k 0 ≡ coverAt v k
-  pub mark : getD side (128 + k) 0 ≡ accessMark (accessAt v k)
+  pub access : getD side (128 + k) 0 ≡ accessNumber (accessAt v k)
   pub roles : getD side (256 + k) 0 ≡ renumbered ns (v .roles) (accessRoles (accessAt v k))
   pub gap : getD side (384 + k) 0 ≡ gapAt v k
 
@@ -103,11 +103,11 @@ joinedAlong (suc f) side n m k j =
     (joinedAlong f side n m (k + 1 + getD side (384 + k) 0) (cond (eqb (digit m (getD side k 0)) 1) (joinWith j (accessIn side k)) j))
     j
 
--- whom the table grants at a place, for method m
+-- whom the table grants at a best line, for method m
 unfoldable pub grantsIn : List ℕ → ℕ → ℕ → ℕ → ℕ
-unfolding granted joinedAlong
+unfolding granteesOf joinedAlong
 grantsIn side n zero m = everyone
-grantsIn side n (suc k) m = granted (joinedAlong n side n m k nothingJoined)
+grantsIn side n (suc k) m = granteesOf (joinedAlong n side n m k nothingJoined)
 
 -- the numbers f 0, f 1, .., k of them
 unfoldable pub listed : ℕ → (ℕ → ℕ) → List ℕ
@@ -115,11 +115,11 @@ listed zero f = []
 listed (suc k) f = f 0 ∷ listed k (λ i. f (suc i))
 
 -- for each method
-unfoldable pub rowIn : List ℕ → ℕ → ℕ → List ℕ
+unfoldable pub rosterIn : List ℕ → ℕ → ℕ → List ℕ
 unfolding listed grantsIn
-rowIn side n a = listed 32 (grantsIn side n a)
+rosterIn side n a = listed 32 (grantsIn side n a)
 
--- ---- the trial methods, by their numbers among old's methods os, and 64 places on among new's, ns
+-- ---- the trial methods, by their numbers among old's methods os, and 64 numbers on among new's, ns
 pub record PairsOf (os ns : List Text) (pairs : List ℕ) (count : ℕ) : Type 0 where
   pub size : length pairs ≡ 128
   pub all : count ≡ length (methodsTried os ns)

@@ -1,10 +1,10 @@
-// What two places come to: the first trial method and the first caller that old denies and new grants.
+// What two best lines come to: the first trial method and the first caller that old denies and new grants.
 ghost use mathlib.Core.Path.{_≡_};
 ghost use Prim.Native.Nat.{_≤_, _<_};
 ghost use lib.ListN.{length};
 ghost use Rattle.grants.specs.Sides.{PairsFit};
 ghost use Rattle.grants.specs.Catches.{caughtFrom, caughtIn};
-use crate::rows;
+use crate::rosters;
 use entries::tables;
 
 // Nothing, or the number of a trial method and the number of a caller.
@@ -13,7 +13,7 @@ pub enum Caught {
     At(usize, u32),
 }
 
-// Of two rows.
+// Of two rosters.
 pub fn judge(ro: &[u64], rn: &[u64], pairs: &[u32], count: usize) -> Caught
     requires { ⌜ ((length (now ro) ≡ 32) × (length (now rn) ≡ 32)) × (((length (now pairs) ≡ 128) × (count ≤ 63)) × PairsFit (now pairs) count) ⌝ }
     ensures { λ r. ⌜ r ≡ caughtFrom (now (ro .entry)) (now (rn .entry)) (now (pairs .entry)) count 0 ⌝ }
@@ -31,8 +31,8 @@ pub fn judge(ro: &[u64], rn: &[u64], pairs: &[u32], count: usize) -> Caught
     Caught::Nothing
 }
 
-// Of two places: u of old, with o lines, and v of new, with n.
-pub fn judge_places(
+// Of two best lines: u of old, with o lines, and v of new, with n.
+pub fn judge_lines(
     so: &[u32],
     o: usize,
     sn: &[u32],
@@ -47,7 +47,7 @@ pub fn judge_places(
 {
     let mut ro = [0; 32];
     let mut rn = [0; 32];
-    rows::fill_row(so, o, u, &mut ro);
-    rows::fill_row(sn, n, v, &mut rn);
+    rosters::fill_roster(so, o, u, &mut ro);
+    rosters::fill_roster(sn, n, v, &mut rn);
     judge(&ro, &rn, pairs, count)
 }

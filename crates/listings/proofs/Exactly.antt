@@ -215,7 +215,7 @@ number-right RoleTwice = refl
 number-right PastMost = refl
 number-right NoEnd = refl
 
--- the place of a number in the rules' order
+-- the index of a number in the rules' order
 abbrev orderAt : ℕ → ℕ
 orderAt k = cond (eqb k 8) 7 (cond (eqb k 9) 6 (k - 2))
 

@@ -16,7 +16,7 @@ use Rattle.listings.specs.declared.answers.Fault.the-variants.{LongListi
 use Rattle.text.proofs.Truths.{never, not-so, or-left, or-right}
 
 -- ---- the order of the rules
--- the rule at a place of the order
+-- the rule at an index of the order
 abbrev ruleAt : ℕ → Fault
 ruleAt n =
     cond (eqb n 0) LongListing
@@ -39,7 +39,7 @@ rule-at RoleTwice = refl
 rule-at PastMost = refl
 rule-at NoEnd = refl
 
--- no two rules have the same place
+-- no two rules have the same index
 pub one-rule : (f g : Fault) → orderOf f ≡ orderOf g → f ≡ g
 one-rule f g e = sym (rule-at f) ∙ ap ruleAt e ∙ rule-at g
 
@@ -101,17 +101,17 @@ module _ (broken : Fault → ℕ → Bool) where
   first-same others (refusal f n) e a = (e f n ∙ a .0, λ g m h. e g m ∙ a .1 g m h)
 
 -- ---- the first that passes, of rules that stand in order
--- the places of the rules are k, k + 1, .., up to but not e
+-- the indices of the rules are k, k + 1, .., up to but not e
 abbrev Counted : ℕ → ℕ → List Fault → Type 0
 Counted k e [] = k ≡ e
 Counted k e (f ∷ fs) = (orderOf f ≡ k) × Counted (suc k) e fs
 
 module _ (test : Fault → Bool) where
-  -- no rule before place k passes
+  -- no rule before index k passes
   abbrev pub Clear : ℕ → Type 0
   Clear k = (g : Fault) → orderOf g < k → test g ≡ false
 
-  -- one place more
+  -- one index more
   clear-more : (f : Fault) → test f ≡ false → Clear (orderOf f) → Clear (suc (orderOf f))
   clear-more f e c g l = go (eqb (orderOf g) (orderOf f)) refl
     where
@@ -119,7 +119,7 @@ module _ (test : Fault → Bool) where
       go true q = rw (one-rule g f (eqb-true (orderOf g) (orderOf f) q)) e
       go false q = let n = eqb-false (orderOf g) (orderOf f) q in c g (omega arith)
 
-  -- the first that passes, with none before it that does; or none before place e
+  -- the first that passes, with none before it that does; or none before index e
   abbrev pub FoundFirst : ℕ → Option Fault → Type 0
   FoundFirst e none = Clear e
   FoundFirst e (some f) = (test f ≡ true) × Clear (orderOf f)

@@ -8,7 +8,7 @@ use lib.ListN.{length}
 use lib.Dec.{ltb}
 use borrow.Author.Tests.{ltb-false}
 use Rattle.text.specs.Texts.{first, run, distinct}
-use Rattle.listings.specs.Records.{Record, placeAfter, mayFollow, fieldsWhere, rolesIn, methodsIn}
+use Rattle.listings.specs.Records.{Record, stageAfter, mayFollow, fieldsWhere, rolesIn, methodsIn}
 use Rattle.listings.specs.Fields.{nameFits, patternFits}
 use Rattle.limits.specs.Limits.{mostConstraints, mostCollections, mostPatterns, mostMethodLines, mostRoles, mostMethods}
 use Rattle.listings.specs.Counts.{count, tooMany}
@@ -20,7 +20,7 @@ use Rattle.text.proofs.Truths.{or-left, or-right}
 
 -- the record breaks no rule behind those before it
 pub record Passes (before : List Record) (r : Record) : Type 0 where
-  pub place : mayFollow (placeAfter before) (r .kind) ≡ true
+  pub stage : mayFollow (stageAfter before) (r .kind) ≡ true
   pub name : nameFits r ≡ true
   pub pattern : patternFits r ≡ true
   pub once : declaresAgain before r ≡ false
@@ -33,8 +33,8 @@ pub data Sound : List Record → Type 0 where
 
 -- the ladder of the rules in their order
 abbrev pub faultBy : Bool → Bool → Bool → Bool → Bool → Option Fault
-faultBy place name pattern again past =
-    cond (not place) (some WrongPlace)
+faultBy stage name pattern again past =
+    cond (not stage) (some WrongPlace)
     (cond (not name) (some BadName)
     (cond (not pattern) (some BadPattern)
     (cond again (some RoleTwice)
@@ -44,7 +44,7 @@ faultBy place name pattern again past =
 -- the first rule broken is that ladder's
 pub first-broken : (before : List Record) (r : Record) →
     firstBroken before r
-    ≡ faultBy (mayFollow (placeAfter before) (r .kind)) (nameFits r) (patternFits r) (declaresAgain before r) (tooMany (before ++ r ∷ []))
+    ≡ faultBy (mayFollow (stageAfter before) (r .kind)) (nameFits r) (patternFits r) (declaresAgain before r) (tooMany (before ++ r ∷ []))
 unfolding firstBroken first breaks inWrongPlace
 first-broken before r = refl
 
@@ -52,7 +52,7 @@ first-broken before r = refl
 pub passes : (before : List Record) (r : Record) → firstBroken before r ≡ none → Passes before r
 passes before r e =
     let h = go _ (nameFits r) (patternFits r) (declaresAgain before r) (tooMany (before ++ r ∷ [])) (sym (first-broken before r) ∙ e) in
-    record { place = h .0; name = h .1; pattern = h .2; once = h .3; few = h .4 }
+    record { stage = h .0; name = h .1; pattern = h .2; once = h .3; few = h .4 }
   where
     go : (a b c d e : Bool) → faultBy a b c d e ≡ none → (a ≡ true) × (b ≡ true) × (c ≡ true) × (d ≡ false) × (e ≡ false)
     go false b c d e h = absurd (Option·some-ne-none WrongPlace h)

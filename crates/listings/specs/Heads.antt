@@ -1,4 +1,4 @@
--- How the code takes a line's head and a record's place: for the proofs alone, which show that it is what Records says.
+-- How the code takes a line's head and what may follow what: for the proofs alone, which show that it is what Records says.
 use Prim.Native.Nat.{ℕ}
 use mathlib.Core.Bool.{Bool, true, false, cond}
 use Rattle.text.specs.Texts.{Text, bytes, startsWith}
@@ -6,8 +6,8 @@ use Rattle.listings.specs.declared.records.Kind.{Kind}
 use Rattle.listings.specs.declared.records.Kind.the-variants.{Role, Constraint, Allow, Collection, Pattern, Method, Omit, End}
 use Rattle.listings.specs.declared.records.Named.the-variants.{Known, Unknown}
 use Rattle.listings.specs.declared.records.Headed.{Headed}
-use Rattle.listings.specs.declared.records.Place.{Place}
-use Rattle.listings.specs.declared.records.Place.the-variants.{AfterFirst, AfterRole, AfterOpen, AfterAuth, AfterAllow, AfterCollection, AfterPattern, AfterMethod, AfterOmit, AfterEnd}
+use Rattle.listings.specs.declared.records.Stage.{Stage}
+use Rattle.listings.specs.declared.records.Stage.the-variants.{AfterFirst, AfterRole, AfterOpen, AfterAuth, AfterAllow, AfterCollection, AfterPattern, AfterMethod, AfterOmit, AfterEnd}
 
 -- ---- how a line begins: with a record's name, and a tab behind it or the line's end
 abbrev pub headed : Kind → ℕ → Headed
@@ -34,19 +34,19 @@ headOf t =
     (cond (startsWith (bytes "allow\t") t) (headed Allow 6)
     (headOfPart t))))
 
--- the places that a record of that kind may follow: a binary digit for each, by its number
-abbrev pub placesOf : Kind → ℕ
-placesOf Role = 3
-placesOf Constraint = 451
-placesOf Allow = 24
-placesOf Collection = 476
-placesOf Pattern = 96
-placesOf Method = 192
-placesOf Omit = 320
-placesOf End = 451
+-- the stages that a record of that kind may follow: a binary digit for each, by its number
+abbrev pub stagesOf : Kind → ℕ
+stagesOf Role = 3
+stagesOf Constraint = 451
+stagesOf Allow = 24
+stagesOf Collection = 476
+stagesOf Pattern = 96
+stagesOf Method = 192
+stagesOf Omit = 320
+stagesOf End = 451
 
--- a `method` line at that place is the first of its collection, and takes all other methods out
-abbrev pub isFirstMethod : Place → Bool
+-- a `method` line at that stage is the first of its collection, and takes all other methods out
+abbrev pub isFirstMethod : Stage → Bool
 isFirstMethod AfterFirst = false
 isFirstMethod AfterRole = false
 isFirstMethod AfterOpen = false

@@ -7,7 +7,7 @@
 --   Propers   what is known of every accepted listing
 --   Rules     the plain form of the refusals, for the theorem that ties it to Refusals
 -- The last is for the proofs alone, and no public statement rests on a reader's believing it:
---   Heads     how the code takes a line's head and a record's place
+--   Heads     how the code takes a line's head and what may follow what
 -- docs/READING.md explains the notation.
 pub mod Records
 pub mod Fields

@@ -11,8 +11,8 @@ use Rattle.listings.specs.declared.records.Kind.{Kind}
 use Rattle.listings.specs.declared.records.Kind.the-variants.{Role, Constraint, Allow, Collection, Pattern, Method, Omit, End}
 use Rattle.listings.specs.declared.records.Named.{Named}
 use Rattle.listings.specs.declared.records.Named.the-variants.{Known, Unknown}
-use Rattle.listings.specs.declared.records.Place.{Place}
-use Rattle.listings.specs.declared.records.Place.the-variants.{AfterFirst, AfterRole, AfterOpen, AfterAuth, AfterAllow, AfterCollection, AfterPattern, AfterMethod, AfterOmit, AfterEnd}
+use Rattle.listings.specs.declared.records.Stage.{Stage}
+use Rattle.listings.specs.declared.records.Stage.the-variants.{AfterFirst, AfterRole, AfterOpen, AfterAuth, AfterAllow, AfterCollection, AfterPattern, AfterMethod, AfterOmit, AfterEnd}
 
 -- a record: its kind, and the field behind its name (none behind `collection` and `end`)
 pub record Record : Type 0 where
@@ -59,9 +59,9 @@ formed l = cond (l .ended) (recordOf (fieldsOf (l .bytes))) none
 
 -- ---- what may follow what
 -- where a record leaves the reader; `constraint⇥open` and `constraint⇥auth` differ
-unfoldable pub placeOf : Record → Place
+unfoldable pub stageOf : Record → Stage
 unfolding same
-placeOf r = elim (r .kind) [
+stageOf r = elim (r .kind) [
   | Role ↦ AfterRole
   | Constraint ↦ cond (same (r .field) (bytes "open")) AfterOpen AfterAuth
   | Allow ↦ AfterAllow
@@ -72,15 +72,15 @@ placeOf r = elim (r .kind) [
   | End ↦ AfterEnd
 ]
 
--- the place after the records since the first line
-unfoldable pub placeAfter : List Record → Place
-unfolding placeOf
-placeAfter [] = AfterFirst
-placeAfter (r ∷ []) = placeOf r
-placeAfter (r ∷ q ∷ rs) = placeAfter (q ∷ rs)
+-- the stage after the records since the first line
+unfoldable pub stageAfter : List Record → Stage
+unfolding stageOf
+stageAfter [] = AfterFirst
+stageAfter (r ∷ []) = stageOf r
+stageAfter (r ∷ q ∷ rs) = stageAfter (q ∷ rs)
 
 -- the table of 01, "may follow"
-abbrev pub follows : Kind → List Place
+abbrev pub follows : Kind → List Stage
 follows Role = AfterFirst ∷ AfterRole ∷ []
 follows Constraint = AfterFirst ∷ AfterRole ∷ AfterPattern ∷ AfterMethod ∷ AfterOmit ∷ []
 follows Allow = AfterAuth ∷ AfterAllow ∷ []
@@ -90,18 +90,18 @@ follows Method = AfterPattern ∷ AfterMethod ∷ []
 follows Omit = AfterPattern ∷ AfterOmit ∷ []
 follows End = AfterFirst ∷ AfterRole ∷ AfterPattern ∷ AfterMethod ∷ AfterOmit ∷ []
 
--- places and kinds told apart by a number each
-abbrev pub placeNumber : Place → ℕ
-placeNumber AfterFirst = 0
-placeNumber AfterRole = 1
-placeNumber AfterOpen = 2
-placeNumber AfterAuth = 3
-placeNumber AfterAllow = 4
-placeNumber AfterCollection = 5
-placeNumber AfterPattern = 6
-placeNumber AfterMethod = 7
-placeNumber AfterOmit = 8
-placeNumber AfterEnd = 9
+-- stages and kinds told apart by a number each
+abbrev pub stageNumber : Stage → ℕ
+stageNumber AfterFirst = 0
+stageNumber AfterRole = 1
+stageNumber AfterOpen = 2
+stageNumber AfterAuth = 3
+stageNumber AfterAllow = 4
+stageNumber AfterCollection = 5
+stageNumber AfterPattern = 6
+stageNumber AfterMethod = 7
+stageNumber AfterOmit = 8
+stageNumber AfterEnd = 9
 
 abbrev pub kindNumber : Kind → ℕ
 kindNumber Role = 0
@@ -113,13 +113,13 @@ kindNumber Method = 5
 kindNumber Omit = 6
 kindNumber End = 7
 
--- p is one of the places
-unfoldable pub isAmong : Place → List Place → Bool
+-- p is one of the stages
+unfoldable pub isAmong : Stage → List Stage → Bool
 isAmong p [] = false
-isAmong p (q ∷ qs) = eqb (placeNumber p) (placeNumber q) || isAmong p qs
+isAmong p (q ∷ qs) = eqb (stageNumber p) (stageNumber q) || isAmong p qs
 
--- a record of kind k may stand at place p
-unfoldable pub mayFollow : Place → Kind → Bool
+-- a record of kind k may stand at stage p
+unfoldable pub mayFollow : Stage → Kind → Bool
 unfolding isAmong
 mayFollow p k = isAmong p (follows k)
 

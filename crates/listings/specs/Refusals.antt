@@ -7,7 +7,7 @@ use lib.ListN.{length}
 use lib.Dec.{ltb}
 use Rattle.text.specs.Texts.{Text, bytes, same, member, first}
 use Rattle.text.specs.Lines.{Line, linesOf}
-use Rattle.listings.specs.Records.{Record, formed, placeAfter, mayFollow, isKind, declaredIn}
+use Rattle.listings.specs.Records.{Record, formed, stageAfter, mayFollow, isKind, declaredIn}
 use Rattle.listings.specs.Fields.{nameFits, patternFits}
 use Rattle.limits.specs.Limits.{mostBytes}
 use Rattle.listings.specs.Counts.{tooMany}
@@ -56,8 +56,8 @@ report number side line = record { number = number; side = side; line = line }
 -- ---- the rules for one record, by the records before it
 -- 5: record in a wrong place
 unfoldable pub inWrongPlace : List Record → Record → Bool
-unfolding placeAfter mayFollow
-inWrongPlace before r = not (mayFollow (placeAfter before) (r .kind))
+unfolding stageAfter mayFollow
+inWrongPlace before r = not (mayFollow (stageAfter before) (r .kind))
 
 -- 6: bad role or method name, or constraint kind
 abbrev pub hasBadName : Record → Bool

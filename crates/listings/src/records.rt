@@ -1,8 +1,8 @@
 // The records of a listing, and which may follow which.
 ghost use mathlib.Core.Path.{_≡_};
 ghost use Prim.Native.Nat.{_<_};
-ghost use Rattle.listings.specs.Records.{placeNumber, mayFollow};
-ghost use Rattle.listings.specs.Heads.{isFirstMethod, placesOf, headOfPart, headOf};
+ghost use Rattle.listings.specs.Records.{stageNumber, mayFollow};
+ghost use Rattle.listings.specs.Heads.{isFirstMethod, stagesOf, headOfPart, headOf};
 use text::texts;
 
 // The kinds of record.
@@ -24,7 +24,7 @@ pub enum Named {
 }
 
 // Where a record leaves the reader.
-pub enum Place {
+pub enum Stage {
     AfterFirst,
     AfterRole,
     AfterOpen,
@@ -111,27 +111,27 @@ pub fn head(t: &[u8]) -> Headed
     head_of_part(t)
 }
 
-// The number of a place: its digit in a set of places.
-pub fn place_number(p: Place) -> u8
-    ensures { λ r. ⌜ r ≡ placeNumber p ⌝ }
+// The number of a stage: its digit in a set of stages.
+pub fn stage_number(p: Stage) -> u8
+    ensures { λ r. ⌜ r ≡ stageNumber p ⌝ }
 {
     match p {
-        Place::AfterFirst => 0,
-        Place::AfterRole => 1,
-        Place::AfterOpen => 2,
-        Place::AfterAuth => 3,
-        Place::AfterAllow => 4,
-        Place::AfterCollection => 5,
-        Place::AfterPattern => 6,
-        Place::AfterMethod => 7,
-        Place::AfterOmit => 8,
-        Place::AfterEnd => 9,
+        Stage::AfterFirst => 0,
+        Stage::AfterRole => 1,
+        Stage::AfterOpen => 2,
+        Stage::AfterAuth => 3,
+        Stage::AfterAllow => 4,
+        Stage::AfterCollection => 5,
+        Stage::AfterPattern => 6,
+        Stage::AfterMethod => 7,
+        Stage::AfterOmit => 8,
+        Stage::AfterEnd => 9,
     }
 }
 
-// The places that a record of kind k may follow: a binary digit for each, by its number.
-pub fn places(k: Kind) -> u32
-    ensures { λ r. ⌜ r ≡ placesOf k ⌝ }
+// The stages that a record of kind k may follow: a binary digit for each, by its number.
+pub fn stages(k: Kind) -> u32
+    ensures { λ r. ⌜ r ≡ stagesOf k ⌝ }
 {
     match k {
         Kind::Role => 3,
@@ -145,27 +145,27 @@ pub fn places(k: Kind) -> u32
     }
 }
 
-// Whether a record of kind k may stand at place p.
-pub fn may_follow(p: Place, k: Kind) -> bool
+// Whether a record of kind k may stand at stage p.
+pub fn may_follow(p: Stage, k: Kind) -> bool
     ensures { λ r. ⌜ r ≡ mayFollow p k ⌝ }
 {
-    places(k) >> (place_number(p) % 32) as u32 & 1 == 1
+    stages(k) >> (stage_number(p) % 32) as u32 & 1 == 1
 }
 
 // Whether a `method` line here would be the first of its collection.
-pub fn is_first_method(p: Place) -> bool
+pub fn is_first_method(p: Stage) -> bool
     ensures { λ r. ⌜ r ≡ isFirstMethod p ⌝ }
 {
     match p {
-        Place::AfterFirst => false,
-        Place::AfterRole => false,
-        Place::AfterOpen => false,
-        Place::AfterAuth => false,
-        Place::AfterAllow => false,
-        Place::AfterCollection => false,
-        Place::AfterPattern => true,
-        Place::AfterMethod => false,
-        Place::AfterOmit => false,
-        Place::AfterEnd => false,
+        Stage::AfterFirst => false,
+        Stage::AfterRole => false,
+        Stage::AfterOpen => false,
+        Stage::AfterAuth => false,
+        Stage::AfterAllow => false,
+        Stage::AfterCollection => false,
+        Stage::AfterPattern => true,
+        Stage::AfterMethod => false,
+        Stage::AfterOmit => false,
+        Stage::AfterEnd => false,
     }
 }

@@ -32,7 +32,7 @@ unfolding has
 has-other b x t n = ap (λ (c : Bool). c || has b t) (ne-eqb b x (λ e. n (sym e)))
 
 -- ---- the loop
--- the path has no `.` and no `/` from the place on
+-- the path has no `.` and no `/` from the offset on
 pub record PlainFrom (path : Text) (at : ℕ) : Type 0 where
   pub no-dot : has dot (drop at path) ≡ false
   pub no-slash : has slash (drop at path) ≡ false
@@ -44,7 +44,7 @@ unfolding has
 plain-end path = record { no-dot = ap (has dot) (drop-length path); no-slash = ap (has slash) (drop-length path); within = omega arith }
 
 module _ (path : Text) (at : ℕ) (v : PlainFrom path at) where
-  -- the path from the byte before the place on
+  -- the path from the byte before the offset on
   before : 0 < at → drop (at - 1) path ≡ getD path (at - 1) 0 ∷ drop at path
   before h = let z : suc (at - 1) ≡ at = omega arith in drop-cons path (at - 1) 0 (omega arith) ∙ rw z
 
@@ -71,7 +71,7 @@ module _ (path : Text) (at : ℕ) (v : PlainFrom path at) where
         within = v .within;
       }
 
-  -- where the last segment begins at the place, it has no `.`
+  -- where the last segment begins at the offset, it has no `.`
   segment-plain : lastSegment path ≡ drop at path → Ends path (record { some = false; at = at })
   segment-plain segment = record {
     dotted = sym (ap (has dot) segment ∙ v .no-dot);

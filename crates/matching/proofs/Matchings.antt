@@ -54,8 +54,8 @@ pub under-within : (p path : Text) (r : Bool) → r ≡ startsWith p path → no
 under-within p path r e h n = let l = starts-long p path r e (not-false r h) in omega arith
 
 -- two numbers that are equal, and two that are not
-pub eqb-held : (a b : ℕ) → a ≡ b → true ≡ eqb a b
-eqb-held a b e = sym (eq-eqb a b e)
+pub eqb-passed : (a b : ℕ) → a ≡ b → true ≡ eqb a b
+eqb-passed a b e = sym (eq-eqb a b e)
 
 pub eqb-failed : (a b : ℕ) → (a ≡ b → ⊥) → false ≡ eqb a b
 eqb-failed a b n = sym (ne-eqb a b n)

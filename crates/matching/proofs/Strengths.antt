@@ -140,7 +140,7 @@ pub leads : (ts : List Text) (path : Text) → Leads ts path (leading ts path)
 unfolding leading
 leads ts path = leads-run [] ts path startLeading (leads-start path)
 
--- a text at a place is one of them
+-- a text at an index is one of them
 pub at-listed : (ts : List Text) (i : ℕ) → i < length ts → List·Memᴰ (getD ts i []) ts
 at-listed [] i h = absurd (omega arith)
 at-listed (t ∷ ts) zero h = List·Memᴰ·head refl

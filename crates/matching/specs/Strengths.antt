@@ -38,7 +38,7 @@ unfoldable pub starredStrength : Text → Text → ℕ
 unfolding startsWith isExtension hasExtension
 starredStrength t path = cond (startsWith (bytes "*.") t && isExtension (drop 2 t)) (cond (hasExtension (drop 2 t) path) 2 0) 0
 
--- x is how the path ends: whether its last segment has a `.`, and the place of what follows the last one
+-- x is how the path ends: whether its last segment has a `.`, and the offset of what follows the last one
 pub record Ends (path : Text) (x : Ending) : Type 0 where
   pub dotted : x .some ≡ has dot (lastSegment path)
   pub behind : drop (x .at) path ≡ afterLast dot (lastSegment path)

@@ -34,8 +34,8 @@ pub fn is_dropped(behind: bool, b: u8) -> bool
     !(b'/' == b) & (behind | (b';' == b))
 }
 
-// The place for the next byte, once one is put at n: n again where that one is dropped.
-pub fn next_place(n: usize, dropped: bool) -> usize
+// The offset for the next byte, once one is put at n: n again where that one is dropped.
+pub fn next_offset(n: usize, dropped: bool) -> usize
     requires { ⌜ n < 1024 ⌝ }
     ensures { λ r. ⌜ r ≡ cond dropped n (n + 1) ⌝ }
 {
@@ -59,13 +59,13 @@ pub fn drop_into(out: &mut [u8], path: &[u8]) -> usize
         let b = path[i];
         out[n] = b;
         behind = is_dropped(behind, b);
-        n = next_place(n, behind);
+        n = next_offset(n, behind);
         i += 1;
     }
     n
 }
 
-// How a path ends: whether its last segment has a '.', and the place of what follows the last one, or of the segment where it has none.
+// How a path ends: whether its last segment has a '.', and the offset of what follows the last one, or of the segment where it has none.
 pub struct Ending {
     pub some: bool,
     pub at: usize,

@@ -23,35 +23,35 @@ and-fails a b e = rw (← e)
 pub and-goes-on : (a b z : Bool) → true ≡ a → z ≡ b → z ≡ (a && b)
 and-goes-on a b z e f = rw (← e) f
 
--- an alternative holds with its first part
-pub or-holds : (a b : Bool) → true ≡ a → true ≡ (a || b)
-or-holds a b e = rw (← e)
+-- an alternative passes with its first part
+pub or-passes : (a b : Bool) → true ≡ a → true ≡ (a || b)
+or-passes a b e = rw (← e)
 
 -- or goes on with its second
 pub or-goes-on : (a b z : Bool) → false ≡ a → z ≡ b → z ≡ (a || b)
 or-goes-on a b z e f = rw (← e) f
 
--- a call's result held
-pub it-held : (r b : Bool) → r ≡ b → r ≡ true → true ≡ b
-it-held r b e t = sym t ∙ e
+-- a call's result passed
+pub it-passed : (r b : Bool) → r ≡ b → r ≡ true → true ≡ b
+it-passed r b e t = sym t ∙ e
 
 -- a call's result failed
 pub it-failed : (r b : Bool) → r ≡ b → r ≡ false → false ≡ b
 it-failed r b e f = sym f ∙ e
 
--- it held where the code tests the opposite
-pub it-held-not : (r b : Bool) → r ≡ b → not r ≡ false → true ≡ b
-it-held-not r b e t = sym (not-false r t) ∙ e
+-- it passed where the code tests the opposite
+pub it-passed-not : (r b : Bool) → r ≡ b → not r ≡ false → true ≡ b
+it-passed-not r b e t = sym (not-false r t) ∙ e
 
 -- it failed where the code tests the opposite
 pub it-failed-not : (r b : Bool) → r ≡ b → not r ≡ true → false ≡ b
 it-failed-not r b e t = sym (not-true r t) ∙ e
 
 -- the opposite of a test that failed
-pub not-held : (b : Bool) → false ≡ b → true ≡ not b
-not-held b e = rw (← e)
+pub not-passed : (b : Bool) → false ≡ b → true ≡ not b
+not-passed b e = rw (← e)
 
--- the opposite of a test that held
+-- the opposite of a test that passed
 pub not-failed : (b : Bool) → true ≡ b → false ≡ not b
 not-failed b e = rw (← e)
 
@@ -59,9 +59,9 @@ not-failed b e = rw (← e)
 pub not-result : (r b : Bool) → r ≡ b → not r ≡ not b
 not-result r b e = rw e
 
--- a comparison of numbers that holds
-pub leb-held : (a b : ℕ) → a ≤ b → true ≡ leb a b
-leb-held a b h = sym (le-leb a b h)
+-- a comparison of numbers that passes
+pub leb-passed : (a b : ℕ) → a ≤ b → true ≡ leb a b
+leb-passed a b h = sym (le-leb a b h)
 
 -- a comparison of numbers that fails
 pub leb-failed : (a b : ℕ) → b < a → false ≡ leb a b
@@ -80,16 +80,16 @@ filled-differs t n = same-lengths t [] n
 pub ruleset tests = (
   and-fails,
   and-goes-on,
-  or-holds,
+  or-passes,
   or-goes-on,
-  it-held,
+  it-passed,
   it-failed,
-  it-held-not,
+  it-passed-not,
   it-failed-not,
-  not-held,
+  not-passed,
   not-failed,
   not-result,
-  leb-held,
+  leb-passed,
   leb-failed,
   empty-same,
   filled-differs,
@@ -140,18 +140,18 @@ pub is-permitted : (t : Text) (z : Bool)
     → z ≡ (same t [] || (startsWith (bytes "/") t || (startsWith (bytes "*.") t && isExtension (drop 2 t)))) → z ≡ isPermitted (kindOf t)
 is-permitted t z e = e ∙ sym (permitted t)
 
--- a pattern's tests, the length's to the last space's held: what is left is that it has no `;`, and its kind
-module _ (t : Text) (clean spaced marked : Bool) (h : length t ≤ 255) (is : clean ≡ all isText t) (c : not clean ≡ false)
-    (last : spaced ≡ endsWith (bytes " ") t) (s : spaced ≡ false) (mark : marked ≡ has semicolon t) where
-  left-of-pattern : (not marked && isPermitted (kindOf t)) ≡ isPattern t
+-- a pattern's tests, the length's to the last space's passed: what is left is that it has no `;`, and its kind
+module _ (t : Text) (clean spaced found : Bool) (h : length t ≤ 255) (is : clean ≡ all isText t) (c : not clean ≡ false)
+    (last : spaced ≡ endsWith (bytes " ") t) (s : spaced ≡ false) (found-is : found ≡ has semicolon t) where
+  left-of-pattern : (not found && isPermitted (kindOf t)) ≡ isPattern t
   unfolding isPattern
-  left-of-pattern = sym (rw (le-leb 0 (length t) (omega arith), le-leb (length t) 255 h, ← is, not-false clean c, ← last, s, ← mark))
+  left-of-pattern = sym (rw (le-leb 0 (length t) (omega arith), le-leb (length t) 255 h, ← is, not-false clean c, ← last, s, ← found-is))
 
-  pub marked-fails : marked ≡ true → false ≡ isPattern t
-  marked-fails e = ap (λ (b : Bool). not b && isPermitted (kindOf t)) (sym e) ∙ left-of-pattern
+  pub semicolon-fails : found ≡ true → false ≡ isPattern t
+  semicolon-fails e = ap (λ (b : Bool). not b && isPermitted (kindOf t)) (sym e) ∙ left-of-pattern
 
-  pub unmarked-goes-on : (z : Bool) → marked ≡ false → z ≡ isPermitted (kindOf t) → z ≡ isPattern t
-  unmarked-goes-on z e f = f ∙ ap (λ (b : Bool). not b && isPermitted (kindOf t)) (sym e) ∙ left-of-pattern
+  pub without-goes-on : (z : Bool) → found ≡ false → z ≡ isPermitted (kindOf t) → z ≡ isPattern t
+  without-goes-on z e f = f ∙ ap (λ (b : Bool). not b && isPermitted (kindOf t)) (sym e) ∙ left-of-pattern
 
 -- what is behind `*.`, as it is lent
 pub extension-behind : (t : Text) (r : Bool) → r ≡ isExtension (part 2 (length t) t) → r ≡ isExtension (drop 2 t)

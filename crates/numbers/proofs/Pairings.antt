@@ -60,7 +60,7 @@ module _ (os ns ms : List Text) (t : Text) (pairs : List ℕ) (a b n : ℕ) (U :
     news = more-seconds ns ms t pairs a b n (U .size) n-is (omega arith) q (U .news);
   }
 
--- a text that is none of them has their number for its place
+-- a text that is none of them has their number for its index
 unfound : (t : Text) (us : List Text) → length us ≤ indexOf t us → length us ≡ indexOf t us
 unfound t us h = omega (arith, index-bound t us)
 
@@ -194,9 +194,9 @@ module _ (os ns : List Text) where
   abbrev filler : Text
   filler = fillerMethod (ns ++ os)
 
-  -- where it is not named it has the number of the methods for its place
-  filler-place : (us : List Text) → member filler us ≡ false → length us ≡ indexOf filler us
-  filler-place us e = unfound filler us (ltb-false (indexOf filler us) (length us) (index-member filler us ∙ e))
+  -- where it is not named it has the number of the methods for its index
+  filler-index : (us : List Text) → member filler us ≡ false → length us ≡ indexOf filler us
+  filler-index us e = unfound filler us (ltb-false (indexOf filler us) (length us) (index-member filler us ∙ e))
 
   -- it stands last
   pub all-paired : length os ≤ 31 → length ns ≤ 31 → (a b : ℕ) → a ≡ length os → b ≡ length ns → (pairs : List ℕ) (count : ℕ) → PairedUp os ns (joined ns os) pairs
@@ -204,8 +204,8 @@ module _ (os ns : List Text) where
   unfolding methodsTried
   all-paired h l a b a-is b-is pairs count U c =
       let u = unnamed-in-both os ns h l in
-      let p : a ≡ indexOf filler os = a-is ∙ filler-place os (u .1) in
-      let q : b ≡ indexOf filler ns = b-is ∙ filler-place ns (u .0) in
+      let p : a ≡ indexOf filler os = a-is ∙ filler-index os (u .1) in
+      let q : b ≡ indexOf filler ns = b-is ∙ filler-index ns (u .0) in
       let z : count + 1 ≡ length (joined ns os ++ filler ∷ []) = omega (arith, length-snoc (joined ns os) filler) in
       record {
         size = pair-size os ns (joined ns os) filler pairs a b count U c p q;

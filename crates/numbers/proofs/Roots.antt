@@ -18,7 +18,7 @@ use Rattle.names.proofs.Plainly.{shape}
 use Rattle.decisions.specs.Matching.{isUnder}
 use Rattle.matching.specs.Strengths.{startLeading, leadBy}
 use Rattle.matching.specs.declared.Leading.{Leading}
-use Rattle.grants.specs.Scratch.{placed, isFirmIn, belowStrength, endStrength, stemStrength, leadingBy, stemPlace}
+use Rattle.grants.specs.Scratch.{bestNumber, isFirmIn, belowStrength, endStrength, stemStrength, leadingBy, stemBest}
 use Rattle.grants.proofs.OwnStems.{by-more, by-less}
 use Rattle.numbers.proofs.Searchings.{by-same}
 
@@ -181,25 +181,25 @@ module _ (t : Text) (g : Text → ℕ) (low : (u : Text) → g u < 3 → g u ≤
           rw q (again (leadBy x (g u)) (leadBy y (g u)) false i (other-step x y i false (g u) (low u) B))
 
 -- ---- what is written of them
-placed-odd : (y : Leading) → 3 ≤ y .most → isFirmIn (placed y) ≡ true
-placed-odd y h = rw (ne-eqb (y .most) 0 (λ e. omega arith), le-leb 3 (y .most) h) (eq-eqb ((2 * (y .at + 1) + 1) % 2) 1 (omega arith))
+best-odd : (y : Leading) → 3 ≤ y .most → isFirmIn (bestNumber y) ≡ true
+best-odd y h = rw (ne-eqb (y .most) 0 (λ e. omega arith), le-leb 3 (y .most) h) (eq-eqb ((2 * (y .at + 1) + 1) % 2) 1 (omega arith))
 
-placed-even : (y : Leading) → y .most < 3 → isFirmIn (placed y) ≡ false
-placed-even y h = rw (lt-leb 3 (y .most) h) (go (eqb (y .most) 0))
+best-even : (y : Leading) → y .most < 3 → isFirmIn (bestNumber y) ≡ false
+best-even y h = rw (lt-leb 3 (y .most) h) (go (eqb (y .most) 0))
   where
     go : (b : Bool) → eqb (cond b 0 (2 * (y .at + 1) + 0) % 2) 1 ≡ false
     go true = ne-eqb (0 % 2) 1 (λ e. omega arith)
     go false = ne-eqb ((2 * (y .at + 1) + 0) % 2) 1 (λ e. omega arith)
 
-placed-soft : (x : Leading) (i : ℕ) → x .at ≡ i → x .most ≡ 2 → placed x ≡ 2 * (i + 1)
-placed-soft x i p q = rw (p, q) (omega arith)
+best-soft : (x : Leading) (i : ℕ) → x .at ≡ i → x .most ≡ 2 → bestNumber x ≡ 2 * (i + 1)
+best-soft x i p q = rw (p, q) (omega arith)
 
 module _ (ts : List Text) (t e : Text) (k-is : kindOf t ≡ extension e) where
   abbrev root : ℕ
-  root = stemPlace ts default
+  root = stemBest ts default
 
-  pub extension-by-root : stemPlace ts (kindOf t) ≡ cond (isFirmIn root) root (cond (ltb (indexOf t ts) (length ts)) (2 * (indexOf t ts + 1)) root)
-  unfolding stemPlace leadingBy
+  pub extension-by-root : stemBest ts (kindOf t) ≡ cond (isFirmIn root) root (cond (ltb (indexOf t ts) (length ts)) (2 * (indexOf t ts + 1)) root)
+  unfolding stemBest leadingBy
   extension-by-root = rw k-is (go (decLt (y .most) 3) (member t ts) refl)
     where
       x : Leading
@@ -214,9 +214,9 @@ module _ (ts : List Text) (t e : Text) (k-is : kindOf t ≡ extension e) where
       B : Beside x y (member t ts) (0 + indexOf t ts)
       B = rw (by-same (stemStrength (extension e)) (λ (u : Text). cond (same u t) 2 (stemStrength default u)) (end-strength t e k-is) ts) B′
 
-      go : Dec (y .most < 3) → (b : Bool) → member t ts ≡ b → placed x ≡ cond (isFirmIn (placed y)) (placed y) (cond (ltb (indexOf t ts) (length ts)) (2 * (indexOf t ts + 1)) (placed y))
-      go (no h) b m = rw (placed-odd y (omega arith)) (ap placed (B .firm (omega arith)))
+      go : Dec (y .most < 3) → (b : Bool) → member t ts ≡ b → bestNumber x ≡ cond (isFirmIn (bestNumber y)) (bestNumber y) (cond (ltb (indexOf t ts) (length ts)) (2 * (indexOf t ts + 1)) (bestNumber y))
+      go (no h) b m = rw (best-odd y (omega arith)) (ap bestNumber (B .firm (omega arith)))
       go (yes h) true m =
           let s = B .soft h m in
-          rw (placed-even y h, index-member t ts, m) (placed-soft x (indexOf t ts) (s .0 ∙ omega arith) (s .1))
-      go (yes h) false m = rw (placed-even y h, index-member t ts, m) (ap placed (B .none m))
+          rw (best-even y h, index-member t ts, m) (best-soft x (indexOf t ts) (s .0 ∙ omega arith) (s .1))
+      go (yes h) false m = rw (best-even y h, index-member t ts, m) (ap bestNumber (B .none m))

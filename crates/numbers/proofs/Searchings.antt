@@ -19,7 +19,7 @@ use Rattle.text.proofs.Spans.{same-equal, same-self, starts-short, starts-is}
 use Rattle.decisions.specs.Matching.{isUnder}
 use Rattle.matching.specs.Strengths.{kindStrength, rootedStrength, starredStrength, startLeading, leadBy, lead, leading}
 use Rattle.matching.specs.declared.Leading.{Leading}
-use Rattle.grants.specs.Scratch.{placed, belowStrength, stemStrength, leadingBy}
+use Rattle.grants.specs.Scratch.{bestNumber, belowStrength, stemStrength, leadingBy}
 use Rattle.reading.specs.Views.{texts, viewAt}
 use Rattle.entries.specs.declared.tables.Tally.{Tally}
 use Rattle.firsts.proofs.Enterings.{Seeking, seek-start}
@@ -326,11 +326,11 @@ module _ (t : Text) (firm : isFirmText t ≡ true) (full : length t ≡ 0 → �
 
 -- ---- what is written of it
 module _ (x : Leading) where
-  pub placed-none : x .most ≡ 0 → 0 ≡ placed x
-  placed-none e = rw (eq-eqb (x .most) 0 e)
+  pub best-none : x .most ≡ 0 → 0 ≡ bestNumber x
+  best-none e = rw (eq-eqb (x .most) 0 e)
 
-  pub placed-firm : (x .most ≡ 0 → ⊥) → 3 ≤ x .most → 2 * (x .at + 1) + 1 ≡ placed x
-  placed-firm n h = rw (ne-eqb (x .most) 0 n, le-leb 3 (x .most) h)
+  pub best-firm : (x .most ≡ 0 → ⊥) → 3 ≤ x .most → 2 * (x .at + 1) + 1 ≡ bestNumber x
+  best-firm n h = rw (ne-eqb (x .most) 0 n, le-leb 3 (x .most) h)
 
-  pub placed-soft : (x .most ≡ 0 → ⊥) → x .most < 3 → 2 * (x .at + 1) ≡ placed x
-  placed-soft n h = rw (ne-eqb (x .most) 0 n, lt-leb 3 (x .most) h) (omega arith)
+  pub best-soft : (x .most ≡ 0 → ⊥) → x .most < 3 → 2 * (x .at + 1) ≡ bestNumber x
+  best-soft n h = rw (ne-eqb (x .most) 0 n, lt-leb 3 (x .most) h) (omega arith)

@@ -20,11 +20,11 @@ use Rattle.reading.specs.Views.{View, texts, coverAt, accessAt, viewAt}
 use Rattle.reading.specs.declared.held.Access.{Access}
 use Rattle.entries.specs.declared.tables.Tally.{Tally}
 use Rattle.entries.proofs.Digits.{set-same, set-none, set-with}
-use Rattle.grants.specs.Sides.{LineIn, renumbered, accessMark, accessRoles, gapAt}
+use Rattle.grants.specs.Sides.{LineIn, renumbered, accessNumber, accessRoles, gapAt}
 use Rattle.grants.proofs.Stores.{Filled, fill-start, fill-more, fill-all}
 use Rattle.firsts.specs.Keeping.{Kept}
 use Rattle.firsts.proofs.Keepings.{kept-then, part-at, part-length, part-behind}
-use Rattle.numbers.specs.Writes.{LinesWritten, Lent, Mapped, viewFrom, markAt, renumberedBy, rolesBy, Plain, SideWritten}
+use Rattle.numbers.specs.Writes.{LinesWritten, Lent, Mapped, viewFrom, accessNumberAt, renumberedBy, rolesBy, Plain, SideWritten}
 use Rattle.numbers.specs.Gaps.{Gapable, GapsLent}
 use Rattle.numbers.proofs.Writings.{Writing, line-there, lent-still, view-still}
 use Rattle.text.proofs.Indices.{index-bound}
@@ -35,7 +35,7 @@ module _ (s : Text) (t : Tally) (w : List ℕ) (H : Holds s t w) where
   pub roles-start : (n : ℕ) (f : ℕ → ℕ) (out : List ℕ) → n ≡ length (viewAt s t w .roles) → length out ≡ 32 → Filled 32 n 0 f out
   roles-start n f out e z = fill-start 32 n f out z (omega (arith, H .proper .few-roles))
 
-  -- the place of a role is a small number
+  -- the index of a role is a small number
   pub role-small : (m : Text) (r : ℕ) → r ≡ indexOf m (viewAt s t w .roles) → r < 4294967296
   role-small m r e = omega (arith, H .proper .few-roles, index-bound m (viewAt s t w .roles))
 
@@ -51,15 +51,15 @@ pub map-more : (ns os : List Text) (n i : ℕ) (out : List ℕ) (name : Text) (v
     → name ≡ getD ns i [] → v ≡ indexOf name os → Filled 32 n (i + 1) (λ j. indexOf (getD ns j []) os) (set out i v)
 map-more ns os n i out name v F h p q = fill-more 32 n (λ j. indexOf (getD ns j []) os) out i v F h (q ∙ ap (λ (u : Text). indexOf u os) p)
 
--- all of the roles are placed
+-- all of the roles have their index
 pub map-all : (ns os : List Text) (n i : ℕ) (map : List ℕ) → Filled 32 n i (λ j. indexOf (getD ns j []) os) map → n ≤ i → n ≡ length ns → Mapped ns os map
-map-all ns os n i map F h e = let r = fill-all 32 n (λ j. indexOf (getD ns j []) os) map i (length ns) F h e in record { size = r .0; places = r .1 }
+map-all ns os n i map F h e = let r = fill-all 32 n (λ j. indexOf (getD ns j []) os) map i (length ns) F h e in record { size = r .0; indices = r .1 }
 
 -- ---- one line
--- its mark
-pub mark-is : (v : View) (k : ℕ) (a : Access) (r : ℕ) → a ≡ accessAt v k → r ≡ accessMark a → r ≡ markAt v k
-unfolding markAt
-mark-is v k a r p q = q ∙ ap accessMark p
+-- its access
+pub access-is : (v : View) (k : ℕ) (a : Access) (r : ℕ) → a ≡ accessAt v k → r ≡ accessNumber a → r ≡ accessNumberAt v k
+unfolding accessNumberAt
+access-is v k a r p q = q ∙ ap accessNumber p
 
 -- its roles, in new's numbers
 pub roles-are : (map : List ℕ) (n own : ℕ) (v : View) (k : ℕ) (a : Access) (x r : ℕ) → a ≡ accessAt v k → x ≡ accessRoles a → own ≡ length (v .roles) → r ≡ renumberedBy map n own x → r ≡ rolesBy map n v k
@@ -121,11 +121,11 @@ module _ (map : List ℕ) (own x n : ℕ) where
     pub set-all : n ≤ i → out ≡ renumberedBy map n own x
     set-all h = let z : i ≡ n = omega (arith, R .ahead) in R .so-far ∙ rw z
 
-    module _ (h : i < n) (j : ℕ) (place : j ≡ getD map i 0) where
+    module _ (h : i < n) (j : ℕ) (index : j ≡ getD map i 0) where
       -- a role that the view hasn't
       pub set-lacks : own ≤ j → Renumbering map own x n (i + 1) out
       set-lacks l =
-          let e : isIn map own x i ≡ false = rw (← place, le-ltb j own l) in
+          let e : isIn map own x i ≡ false = rw (← index, le-ltb j own l) in
           record { so-far = R .so-far ∙ sym (to-past map own x i e); ahead = omega arith }
 
       module _ (l : j < own) (few : own ≤ 32) where
@@ -136,14 +136,14 @@ module _ (map : List ℕ) (own x n : ℕ) where
         pub set-misses : (x / 2 ^ (j % 64) % 2 ≡ 1 → ⊥) → Renumbering map own x n (i + 1) out
         set-misses m =
             let d : eqb (digit j x) 1 ≡ false = ne-eqb (digit j x) 1 (rw (mod-eq-of-lt small) at m) in
-            let e : isIn map own x i ≡ false = rw (← place, lt-ltb j own l) d in
+            let e : isIn map own x i ≡ false = rw (← index, lt-ltb j own l) d in
             record { so-far = R .so-far ∙ sym (to-past map own x i e); ahead = omega arith }
 
         -- one that is
         pub set-has : n ≤ 32 → x / 2 ^ (j % 64) % 2 ≡ 1 → Renumbering map own x n (i + 1) (bitOr out (1 * 2 ^ (i % 32) % 4294967296))
         set-has f m =
             let d : digit j x ≡ 1 = rw (mod-eq-of-lt small) at m in
-            let e : isIn map own x i ≡ true = rw (← place, lt-ltb j own l, d) in
+            let e : isIn map own x i ≡ true = rw (← index, lt-ltb j own l, d) in
             let b : i < 32 = omega arith in
             record {
               so-far = rw (mod-eq-of-lt b, one-mul (2 ^ i)) (ap (bitOr out) (mod-eq-of-lt (pow-lt b)) ∙ ap (λ (y : ℕ). bitOr y (2 ^ i)) (R .so-far) ∙ sym (to-with map own x i e b));
@@ -159,7 +159,7 @@ renumbered-by ns os map x M = set-same 32 (λ i. ltb i (length ns) && isIn map (
     isHere i = ltb (indexOf (getD ns i []) os) (length os) && eqb (digit (indexOf (getD ns i []) os) x) 1
 
     go : (i : ℕ) → Dec (i < length ns) → (ltb i (length ns) && isIn map (length os) x i) ≡ (ltb i (length ns) && isHere i)
-    go i (yes l) = rw (M .places i l)
+    go i (yes l) = rw (M .indices i l)
     go i (no l) = rw (le-ltb i (length ns) (omega arith))
 
 -- ---- gaps
@@ -268,9 +268,9 @@ module _ (s : Text) (t : Tally) (from at : ℕ) (w₀ : List ℕ) (L : Lent s t 
     pub side-second : Lent s t from (at + 128) 128 w₁
     side-second = sub 128 w₁ lent-1 (omega arith)
 
-    module _ (w₂ : List ℕ) (M′ : LinesWritten (viewFrom s t from w₁) markAt (at + 128) w₁ w₂) where
-      M : LinesWritten l markAt (at + 128) w₁ w₂
-      M = of-first markAt at (at + n) (at + 128) w₁ w₂ (C .kept) (L .clear) M′
+    module _ (w₂ : List ℕ) (M′ : LinesWritten (viewFrom s t from w₁) accessNumberAt (at + 128) w₁ w₂) where
+      M : LinesWritten l accessNumberAt (at + 128) w₁ w₂
+      M = of-first accessNumberAt at (at + n) (at + 128) w₁ w₂ (C .kept) (L .clear) M′
 
       kept-2 : Kept at (at + 256) w₀ w₂
       kept-2 = kept-then at (at + 256) at (at + n) (at + 128) (at + 128 + n) w₀ w₁ w₂ (C .kept) (M .kept) (omega arith) (omega (arith, few)) (omega arith) (omega (arith, few))
@@ -291,7 +291,7 @@ module _ (s : Text) (t : Tally) (from at : ℕ) (w₀ : List ℕ) (L : Lent s t 
       side-plain w₃ G′ = let G = of-first gapAt at (at + 256) (at + 384) w₂ w₃ kept-2 (L .clear) G′ in record {
         kept = kept-then at (at + 512) at (at + 256) (at + 384) (at + 384 + n) w₀ w₂ w₃ kept-2 (G .kept) (omega arith) (omega arith) (omega arith) (omega (arith, few));
         covers = λ k h. G .kept .before (at + k) (omega (arith, few)) ∙ M .kept .before (at + k) (omega (arith, few)) ∙ C .values k h;
-        marks = λ k h. G .kept .before (at + 128 + k) (omega (arith, few)) ∙ M .values k h;
+        accesses = λ k h. G .kept .before (at + 128 + k) (omega (arith, few)) ∙ M .values k h;
         gaps = G .values;
       }
 
@@ -318,10 +318,10 @@ module _ (s : Text) (t : Tally) (from at : ℕ) (w₀ : List ℕ) (L : Lent s t 
       inside b k h = let e : at + (b + k) ≡ at + b + k = omega arith in rw (← e) (part-at at (at + 512) (b + k) w (omega arith))
 
       line : (k : ℕ) → k < n → LineIn ns l (part at (at + 512) w) k
-      unfolding markAt
+      unfolding accessNumberAt
       line k h = record {
         cover = part-at at (at + 512) k w (omega (arith, few)) ∙ R .kept .before (at + k) (omega (arith, few)) ∙ P .covers k h;
-        mark = inside 128 k (omega (arith, few)) ∙ R .kept .before (at + 128 + k) (omega (arith, few)) ∙ P .marks k h;
+        access = inside 128 k (omega (arith, few)) ∙ R .kept .before (at + 128 + k) (omega (arith, few)) ∙ P .accesses k h;
         roles = inside 256 k (omega (arith, few)) ∙ R .values k h ∙ in-numbers k;
         gap = inside 384 k (omega (arith, few)) ∙ R .kept .behind (at + 384 + k) (omega (arith, few)) ∙ P .gaps k h;
       }

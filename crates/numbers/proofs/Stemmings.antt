@@ -22,12 +22,12 @@ use Rattle.matching.specs.Strengths.{kindStrength, startLeading, leadBy}
 use Rattle.matching.specs.declared.Leading.{Leading}
 use Rattle.matching.proofs.Strengths.{at-listed}
 use Rattle.trials.proofs.Bounds.{pattern-permitted}
-use Rattle.grants.specs.Scratch.{placed, isFirmIn, sortOf, stemStrength, leadingBy, stemPlace}
+use Rattle.grants.specs.Scratch.{bestNumber, isFirmIn, sortOf, stemStrength, leadingBy, stemBest}
 use Rattle.grants.proofs.OwnStems.{own-first}
 use Rattle.firsts.specs.declared.pairs.Pair.{Pair}
 use Rattle.firsts.proofs.Keepings.{part-at, part-length}
 use Rattle.numbers.specs.Writes.{Both, oldTexts, newTexts}
-use Rattle.numbers.specs.Stemming.{isFirmText, softPlace, Findable, Lacking, Placeable, Spottable, SpotIs, lastStem, Fresh, FreshIs, Stemmable, StemOf}
+use Rattle.numbers.specs.Stemming.{isFirmText, softBest, Findable, Lacking, BestSought, Spottable, SpotIs, lastStem, Fresh, FreshIs, Stemmable, StemOf}
 use Rattle.numbers.specs.declared.stems.Stem.{Stem}
 use Rattle.numbers.specs.declared.stems.Spot.{Spot}
 use Rattle.numbers.proofs.Searchings.{kind-by, starred-kind, slashed, root-slashed, by-same}
@@ -65,7 +65,7 @@ sort-is t z h e = e ∙ go (startsWith (bytes "*.") t) refl (startsWith (bytes "
     go false x true q = rooted (same t (bytes "/")) refl (endsWith (bytes "/*") t) refl ∙ rw (kind-by t, slashed t q, q)
     go false x false q = plain (same t []) ∙ rw (kind-by t, root-slashed t q, q, x)
 
--- ---- places
+-- ---- indices
 -- the leader is one of the texts
 led-at : (g : Text → ℕ) (ts : List Text) (x : Leading) → x .at ≤ x .seen → run (λ (y : Leading) (u : Text). leadBy y (g u)) x ts .at ≤ x .seen + length ts
 unfolding run
@@ -87,19 +87,19 @@ module _ (s : Text) (t : Tally) (w : List ℕ) (H : Holds s t w) where
       let q : x .at ≡ leadingBy g ts .at = ap (λ (y : Leading). y .at) e in
       omega (arith, H .proper .few-patterns)
 
-  -- the lines are few, and so is the place of a text among them
+  -- the lines are few, and so is the index of a text among them
   pub lines-few : (n : ℕ) → n ≡ length ts → n ≤ 128
   lines-few n e = omega (arith, H .proper .few-patterns)
 
   pub index-few : (u : Text) (k : ℕ) → k ≡ indexOf u ts → k ≤ 128
   index-few u k e = omega (arith, H .proper .few-patterns, index-bound u ts)
 
-pub soft-by : (t : Text) (k n root z : ℕ) → z ≡ cond (eqb (root % 2) 1) root (cond (leb n k) root (cond (same t (bytes "/")) root (2 * (k + 1)))) → z ≡ softPlace t k n root
-unfolding softPlace
+pub soft-by : (t : Text) (k n root z : ℕ) → z ≡ cond (eqb (root % 2) 1) root (cond (leb n k) root (cond (same t (bytes "/")) root (2 * (k + 1)))) → z ≡ softBest t k n root
+unfolding softBest
 soft-by t k n root z e = e
 
 -- ---- the best line of the stem of a text
-module _ (s : Text) (t : Tally) (w : List ℕ) (u : Text) (k root : ℕ) (P : Placeable s t w u k root) where
+module _ (s : Text) (t : Tally) (w : List ℕ) (u : Text) (k root : ℕ) (P : BestSought s t w u k root) where
   abbrev us : List Text
   us = texts (viewAt s t w)
 
@@ -108,8 +108,8 @@ module _ (s : Text) (t : Tally) (w : List ℕ) (u : Text) (k root : ℕ) (P : Pl
 
   module _ (n : ℕ) (n-is : n ≡ length us) (r : Bool) (r-is : r ≡ isFirmText u) where
     -- an extension, or `/`
-    pub soft-is : not r ≡ true → (z : ℕ) → z ≡ softPlace u k n root → z ≡ stemPlace us (kindOf u)
-    unfolding softPlace isFirmText
+    pub soft-is : not r ≡ true → (z : ℕ) → z ≡ softBest u k n root → z ≡ stemBest us (kindOf u)
+    unfolding softBest isFirmText
     soft-is h z e = e ∙ go (kindOf u) refl (shape u)
       where
         soft : (q : PatternKind) → kindOf u ≡ q → 3 ≤ kindStrength q → ⊥
@@ -120,7 +120,7 @@ module _ (s : Text) (t : Tally) (w : List ℕ) (u : Text) (k root : ℕ) (P : Pl
         all-root false true = refl
         all-root false false = refl
 
-        own : (x : Text) → kindOf u ≡ extension x → same u (bytes "/") ≡ false → cond (isFirmIn root) root (cond (leb n k) root (cond (same u (bytes "/")) root (2 * (k + 1)))) ≡ stemPlace us (kindOf u)
+        own : (x : Text) → kindOf u ≡ extension x → same u (bytes "/") ≡ false → cond (isFirmIn root) root (cond (leb n k) root (cond (same u (bytes "/")) root (2 * (k + 1)))) ≡ stemBest us (kindOf u)
         own x i d =
             ap (λ (b : Bool). cond (isFirmIn root) root (cond (leb n k) root (cond b root (2 * (k + 1))))) d
             ∙ ap (λ (z : ℕ). cond (isFirmIn root) root z) (at (decLt k n))
@@ -131,7 +131,7 @@ module _ (s : Text) (t : Tally) (w : List ℕ) (u : Text) (k root : ℕ) (P : Pl
             at (yes l) = rw (lt-leb n k l, ← P .line, ← n-is, lt-ltb k n l)
             at (no l) = rw (le-leb n k (omega arith), ← P .line, ← n-is, le-ltb k n (omega arith))
 
-        go : (q : PatternKind) → kindOf u ≡ q → Shape u q → cond (isFirmIn root) root (cond (leb n k) root (cond (same u (bytes "/")) root (2 * (k + 1)))) ≡ stemPlace us (kindOf u)
+        go : (q : PatternKind) → kindOf u ≡ q → Shape u q → cond (isFirmIn root) root (cond (leb n k) root (cond (same u (bytes "/")) root (2 * (k + 1)))) ≡ stemBest us (kindOf u)
         go (exact q) i d = absurd (soft (exact q) i (omega arith))
         go (prefix q) i d = absurd (soft (prefix q) i (omega arith))
         go (extension x) i d = own x i (not-so (same u (bytes "/")) (λ b. starred x (sym (same-equal u (bytes "/") b) ∙ d .0)))
@@ -139,7 +139,7 @@ module _ (s : Text) (t : Tally) (w : List ℕ) (u : Text) (k root : ℕ) (P : Pl
             starred : (x : Text) → bytes "/" ≡ bytes "*." ++ x → ⊥
             starred x b = let z : _≡_ {A = ℕ} 47 42 = ap (λ (y : Text). getD y 0 0) b in omega arith
         go default i d = let b : same u (bytes "/") ≡ true = rw d (same-self (bytes "/")) in
-            ap (λ (c : Bool). cond (isFirmIn root) root (cond (leb n k) root (cond c root (2 * (k + 1))))) b ∙ sym (all-root (isFirmIn root) (leb n k)) ∙ P .root-is ∙ ap (stemPlace us) (sym i)
+            ap (λ (c : Bool). cond (isFirmIn root) root (cond (leb n k) root (cond c root (2 * (k + 1))))) b ∙ sym (all-root (isFirmIn root) (leb n k)) ∙ P .root-is ∙ ap (stemBest us) (sym i)
         go unpermitted i d = absurd (never false (rw i at (P .permitted)) refl)
 
     module _ (h : not r ≡ false) where
@@ -155,19 +155,19 @@ module _ (s : Text) (t : Tally) (w : List ℕ) (u : Text) (k root : ℕ) (P : Pl
       own-none l = record { holds = P .holds; lacks = omega (arith, P .line) }
 
       -- its own line
-      pub own-is : k < n → (p : ℕ) → p ≡ 2 * (k + 1) + 1 → p ≡ stemPlace us (kindOf u)
+      pub own-is : k < n → (p : ℕ) → p ≡ 2 * (k + 1) + 1 → p ≡ stemBest us (kindOf u)
       own-is l p z =
           let m : member u us ≡ true = sym (index-member u us) ∙ lt-ltb (indexOf u us) (length us) (omega (arith, P .line)) in
           z ∙ rw (P .line) (sym (own-first us (P .holds .proper .short-patterns) u m firm))
 
 -- what was found by searching
-pub searched : (us : List Text) (u : Text) (x : Leading) (r : ℕ) → x ≡ leadingBy (stemStrength (kindOf u)) us → r ≡ placed x → r ≡ stemPlace us (kindOf u)
-unfolding stemPlace
-searched us u x r e q = q ∙ ap placed e
+pub searched : (us : List Text) (u : Text) (x : Leading) (r : ℕ) → x ≡ leadingBy (stemStrength (kindOf u)) us → r ≡ bestNumber x → r ≡ stemBest us (kindOf u)
+unfolding stemBest
+searched us u x r e q = q ∙ ap bestNumber e
 
-pub searched-last : (us : List Text) (x : Leading) (r : ℕ) → x ≡ leadingBy (stemStrength (prefix [])) us → r ≡ placed x → r ≡ stemPlace us default
-unfolding stemPlace stemStrength
-searched-last us x r e q = q ∙ ap placed (e ∙ by-same (stemStrength (prefix [])) (stemStrength default) (λ u. refl) us)
+pub searched-last : (us : List Text) (x : Leading) (r : ℕ) → x ≡ leadingBy (stemStrength (prefix [])) us → r ≡ bestNumber x → r ≡ stemBest us default
+unfolding stemBest stemStrength
+searched-last us x r e q = q ∙ ap bestNumber (e ∙ by-same (stemStrength (prefix [])) (stemStrength default) (λ u. refl) us)
 
 -- ---- whether a text stands before
 index-take : (t : Text) (us : List Text) (j : ℕ) → j ≤ length us → ltb (indexOf t us) j ≡ member t (take j us)
@@ -254,15 +254,15 @@ module _ (old new : Text) (wo wn : List ℕ) (pair : Pair) (fs : List ℕ) (text
 
 -- ---- the stem of a fresh text
 module _ (old new : Text) (wo wn : List ℕ) (pair : Pair) (text : Text) (spot : Spot) (last : Stem) (F : Fresh old new wo wn pair text spot last) where
-  pub fresh-old : Placeable old (pair .old) wo text (spot .in_old) (last .in_old)
+  pub fresh-old : BestSought old (pair .old) wo text (spot .in_old) (last .in_old)
   unfolding lastStem
   fresh-old = record { holds = F .both .olds; permitted = F .permitted; line = F .spot-is .in-old; root-is = ap (λ (x : Stem). x .in_old) (F .last-is) }
 
-  pub fresh-new : Placeable new (pair .new) wn text (spot .in_new) (last .in_new)
+  pub fresh-new : BestSought new (pair .new) wn text (spot .in_new) (last .in_new)
   unfolding lastStem
   fresh-new = record { holds = F .both .news; permitted = F .permitted; line = F .spot-is .in-new; root-is = ap (λ (x : Stem). x .in_new) (F .last-is) }
 
-pub fresh-is : (os ns : List Text) (t : Text) (x y z : ℕ) → x ≡ sortOf (kindOf t) → y ≡ stemPlace os (kindOf t) → z ≡ stemPlace ns (kindOf t) → FreshIs os ns t (record { sort = x; in_old = y; in_new = z })
+pub fresh-is : (os ns : List Text) (t : Text) (x y z : ℕ) → x ≡ sortOf (kindOf t) → y ≡ stemBest os (kindOf t) → z ≡ stemBest ns (kindOf t) → FreshIs os ns t (record { sort = x; in_old = y; in_new = z })
 fresh-is os ns t x y z p q r = record { sort = p; in-old = q; in-new = r }
 
 -- the texts of both are permitted

@@ -9,7 +9,7 @@ use lib.Seq.{getD-set-same, getD-set-other}
 use Rattle.text.specs.Texts.{Text, part, indexOf}
 use Rattle.names.specs.Patterns.{default}
 use Rattle.reading.specs.Views.{texts}
-use Rattle.grants.specs.Scratch.{stemPlace}
+use Rattle.grants.specs.Scratch.{stemBest}
 use Rattle.firsts.specs.Keeping.{Kept}
 use Rattle.firsts.specs.declared.pairs.Pair.{Pair}
 use Rattle.firsts.proofs.Keepings.{kept-all, kept-set, kept-then, part-at, part-length}
@@ -194,6 +194,6 @@ module _ (old new : Text) (pair : Pair) (at : ℕ) where
         last = S .behind ∙ ap₂ (λ (k : ℕ) (v : List ℕ). stemIn at k v) (sym (L .all)) p ∙ put-here at n x w₀ lines-few (L .lent .room) ∙ x-is;
       }
 
-pub last-is : (os ns : List Text) (a b : ℕ) → a ≡ stemPlace os default → b ≡ stemPlace ns default → record { sort = 1; in_old = a; in_new = b } ≡ lastStem os ns
+pub last-is : (os ns : List Text) (a b : ℕ) → a ≡ stemBest os default → b ≡ stemBest ns default → record { sort = 1; in_old = a; in_new = b } ≡ lastStem os ns
 unfolding lastStem
 last-is os ns a b p q = rw (p, q)

@@ -21,7 +21,7 @@ pub record Gapable (s : Text) (t : Tally) (w fs : List ℕ) (k : ℕ) : Type 0 w
   pub room : length (texts (viewAt s t w)) ≤ length fs
   pub alike : Alike (texts (viewAt s t w)) fs
 
--- they stand in the work table from place f on, behind the z numbers from place at on that are lent
+-- they stand in the work table from offset f on, behind the z numbers from offset at on that are lent
 pub record GapsLent (s : Text) (t : Tally) (from f at z : ℕ) (w : List ℕ) : Type 0 where
   pub lent : Lent s t from at z w
   pub apart : at + z ≤ f

@@ -13,21 +13,21 @@ use Rattle.numbers.specs.Writes.{BothLent, oldView, newView}
 use Rattle.grants.specs.declared.scratch.Counts.{Counts}
 use Rattle.firsts.specs.Keeping.{Kept}
 
--- the first lines of the texts of both stand from place at on; new has n lines
+-- the first lines of the texts of both stand from offset at on; new has n lines
 pub record FirstsStand (old new : View) (at n : ℕ) (w₀ w : List ℕ) : Type 0 where
   pub kept : Kept at (at + 2048) w₀ w
   pub firsts : Firsts (textsOf old new) at (length (textsOf old new)) w
   pub news : n ≡ length (texts new)
   pub few : n ≤ 128
 
--- the work table holds both views, has room from place at on, and the first lines there
+-- the work table holds both views, has room from offset at on, and the first lines there
 pub record SidesLent (old new : Text) (pair : Pair) (at n : ℕ) (w : List ℕ) : Type 0 where
   pub lent : BothLent old new pair at 2048 w
   pub firsts : Firsts (textsOf (oldView old w pair) (newView new w pair)) at (length (textsOf (oldView old w pair) (newView new w pair))) w
   pub news : n ≡ length (texts (newView new w pair))
   pub few : n ≤ 128
 
--- both sides stand from place at on
+-- both sides stand from offset at on
 pub record SidesWritten (old new : View) (at : ℕ) (w₀ w : List ℕ) : Type 0 where
   pub kept : Kept at (at + 1024) w₀ w
   pub old-side : SideOf (new .roles) old (part at (at + 512) w)

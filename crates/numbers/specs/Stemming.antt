@@ -11,7 +11,7 @@ use Rattle.reading.specs.Holds.{Holds}
 use Rattle.reading.specs.Views.{texts, viewAt}
 use Rattle.entries.specs.declared.tables.Tally.{Tally}
 use Rattle.matching.specs.Strengths.{kindStrength}
-use Rattle.grants.specs.Scratch.{isFirmIn, sortOf, stemPlace, textsOf}
+use Rattle.grants.specs.Scratch.{isFirmIn, sortOf, stemBest, textsOf}
 use Rattle.firsts.specs.Keeping.{Kept}
 use Rattle.firsts.specs.Shares.{Firsts}
 use Rattle.firsts.specs.declared.pairs.Pair.{Pair}
@@ -25,9 +25,9 @@ unfolding kindOf
 isFirmText t = leb 3 (kindStrength (kindOf t))
 
 -- the best line of the stem of an extension that is line k of n, or of `/`, by that of the root
-unfoldable pub softPlace : Text → ℕ → ℕ → ℕ → ℕ
+unfoldable pub softBest : Text → ℕ → ℕ → ℕ → ℕ
 unfolding same
-softPlace t k n root = cond (isFirmIn root) root (cond (leb n k) root (cond (same t (bytes "/")) root (2 * (k + 1))))
+softBest t k n root = cond (isFirmIn root) root (cond (leb n k) root (cond (same t (bytes "/")) root (2 * (k + 1))))
 
 -- ---- where a text stands
 -- the lines with the text are those with the number f
@@ -42,11 +42,11 @@ pub record Lacking (s : Text) (t : Tally) (w : List ℕ) (text : Text) : Type 0 
   pub lacks : length (texts (viewAt s t w)) ≤ indexOf text (texts (viewAt s t w))
 
 -- the text is line k, and root the best line of `/`filler
-pub record Placeable (s : Text) (t : Tally) (w : List ℕ) (text : Text) (k root : ℕ) : Type 0 where
+pub record BestSought (s : Text) (t : Tally) (w : List ℕ) (text : Text) (k root : ℕ) : Type 0 where
   pub holds : Holds s t w
   pub permitted : isPermitted (kindOf text) ≡ true
   pub line : k ≡ indexOf text (texts (viewAt s t w))
-  pub root-is : root ≡ stemPlace (texts (viewAt s t w)) default
+  pub root-is : root ≡ stemBest (texts (viewAt s t w)) default
 
 -- its first line of both is f; where that is one of new, the numbers of old's lines are still there
 pub record Spottable (old new : Text) (wo wn : List ℕ) (pair : Pair) (fs : List ℕ) (text : Text) (f : ℕ) : Type 0 where
@@ -64,8 +64,8 @@ pub record SpotIs (os ns : List Text) (t : Text) (x : Spot) : Type 0 where
 -- ---- stems
 -- the stem of `/`filler
 unfoldable pub lastStem : List Text → List Text → Stem
-unfolding stemPlace
-lastStem os ns = record { sort = 1; in_old = stemPlace os default; in_new = stemPlace ns default }
+unfolding stemBest
+lastStem os ns = record { sort = 1; in_old = stemBest os default; in_new = stemBest ns default }
 
 -- what is needed of a text that stands nowhere before, and its stem
 pub record Fresh (old new : Text) (wo wn : List ℕ) (pair : Pair) (text : Text) (spot : Spot) (last : Stem) : Type 0 where
@@ -76,8 +76,8 @@ pub record Fresh (old new : Text) (wo wn : List ℕ) (pair : Pair) (text : Text)
 
 pub record FreshIs (os ns : List Text) (t : Text) (x : Stem) : Type 0 where
   pub sort : x .sort ≡ sortOf (kindOf t)
-  pub in-old : x .in_old ≡ stemPlace os (kindOf t)
-  pub in-new : x .in_new ≡ stemPlace ns (kindOf t)
+  pub in-old : x .in_old ≡ stemBest os (kindOf t)
+  pub in-new : x .in_new ≡ stemBest ns (kindOf t)
 
 -- line j, where the numbers of the first lines still stand from it on
 pub record Stemmable (old new : Text) (wo wn : List ℕ) (pair : Pair) (fs : List ℕ) (last : Stem) (j : ℕ) : Type 0 where
@@ -92,14 +92,14 @@ pub record Stemmable (old new : Text) (wo wn : List ℕ) (pair : Pair) (fs : Lis
 -- x is the stem of the text t at line j of both, whose pattern texts are os and ns: its sort alone where t stands before
 pub record StemIs (os ns : List Text) (t : Text) (j : ℕ) (x : Stem) : Type 0 where
   pub sort : x .sort ≡ cond (member t (take j (ns ++ os))) 0 (sortOf (kindOf t))
-  pub in-old : member t (take j (ns ++ os)) ≡ false → x .in_old ≡ stemPlace os (kindOf t)
-  pub in-new : member t (take j (ns ++ os)) ≡ false → x .in_new ≡ stemPlace ns (kindOf t)
+  pub in-old : member t (take j (ns ++ os)) ≡ false → x .in_old ≡ stemBest os (kindOf t)
+  pub in-new : member t (take j (ns ++ os)) ≡ false → x .in_new ≡ stemBest ns (kindOf t)
 
 -- x is the stem of line j of both
 abbrev pub StemOf : List Text → List Text → ℕ → Stem → Type 0
 StemOf os ns j x = StemIs os ns (getD (ns ++ os) j []) j x
 
--- stem j in the scratch from place at on
+-- stem j in the scratch from offset at on
 abbrev pub putStem : ℕ → ℕ → Stem → List ℕ → List ℕ
 putStem at j x w = set (set (set w (at + 1152 + j) (x .in_old)) (at + 1409 + j) (x .in_new)) (at + 1666 + j) (x .sort)
 

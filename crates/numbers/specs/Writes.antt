@@ -11,16 +11,16 @@ use Rattle.reading.specs.Holds.{Holds}
 use Rattle.reading.specs.Views.{View, texts, coverAt, accessAt, viewAt}
 use Rattle.entries.specs.declared.tables.Tally.{Tally}
 use Rattle.trials.specs.Trials.{joined}
-use Rattle.grants.specs.Sides.{SideOf, accessMark, accessRoles, gapAt, PairsOf, PairedUp}
+use Rattle.grants.specs.Sides.{SideOf, accessNumber, accessRoles, gapAt, PairsOf, PairedUp}
 use Rattle.firsts.specs.Keeping.{Kept}
 use Rattle.firsts.specs.declared.pairs.Pair.{Pair}
 
--- w is w₀ with the n numbers f 0, f 1, .. from place at on
+-- w is w₀ with the n numbers f 0, f 1, .. from offset at on
 pub record Wrote (at n : ℕ) (f : ℕ → ℕ) (w₀ w : List ℕ) : Type 0 where
   pub kept : Kept at (at + n) w₀ w
   pub values : (k : ℕ) → k < n → getD w (at + k) 0 ≡ f k
 
--- the numbers of g, one for each line of the view v, from place at on
+-- the numbers of g, one for each line of the view v, from offset at on
 abbrev pub LinesWritten : View → (View → ℕ → ℕ) → ℕ → List ℕ → List ℕ → Type 0
 LinesWritten v g at w₀ w = Wrote at (length (texts v)) (g v) w₀ w
 
@@ -66,15 +66,15 @@ pub record BothLent (old new : Text) (pair : Pair) (at z : ℕ) (w : List ℕ) :
   pub room : at + z ≤ length w
 
 -- ---- what is written of line k
--- the mark of its constraint
-unfoldable pub markAt : View → ℕ → ℕ
+-- the number of its constraint's access
+unfoldable pub accessNumberAt : View → ℕ → ℕ
 unfolding accessAt
-markAt v k = accessMark (accessAt v k)
+accessNumberAt v k = accessNumber (accessAt v k)
 
 -- where the roles of new, ns, stand among those of a view, os
 pub record Mapped (ns os : List Text) (map : List ℕ) : Type 0 where
   pub size : length map ≡ 32
-  pub places : (i : ℕ) → i < length ns → getD map i 0 ≡ indexOf (getD ns i []) os
+  pub indices : (i : ℕ) → i < length ns → getD map i 0 ≡ indexOf (getD ns i []) os
 
 -- by such a map of n roles, where the view has `own`: a set of the view's roles
 unfoldable pub renumberedBy : List ℕ → ℕ → ℕ → ℕ → ℕ
@@ -86,11 +86,11 @@ unfoldable pub rolesBy : List ℕ → ℕ → View → ℕ → ℕ
 unfolding renumberedBy accessAt
 rolesBy map n v k = renumberedBy map n (length (v .roles)) (accessRoles (accessAt v k))
 
--- the side of the view v from place at on, its roles aside
+-- the side of the view v from offset at on, its roles aside
 pub record Plain (v : View) (at : ℕ) (w₀ w : List ℕ) : Type 0 where
   pub kept : Kept at (at + 512) w₀ w
   pub covers : (k : ℕ) → k < length (texts v) → getD w (at + k) 0 ≡ coverAt v k
-  pub marks : (k : ℕ) → k < length (texts v) → getD w (at + 128 + k) 0 ≡ markAt v k
+  pub accesses : (k : ℕ) → k < length (texts v) → getD w (at + 128 + k) 0 ≡ accessNumberAt v k
   pub gaps : (k : ℕ) → k < length (texts v) → getD w (at + 384 + k) 0 ≡ gapAt v k
 
 -- the whole side, in the numbers of the names ns
@@ -110,7 +110,7 @@ newMethods new w pair = newView new w pair .methods
 abbrev pub named : Text → Text → List ℕ → Pair → List Text
 named old new w pair = joined (newMethods new w pair) (oldMethods old w pair)
 
--- the methods ms are paired in the 128 numbers from place at on, by their numbers among os and ns
+-- the methods ms are paired in the 128 numbers from offset at on, by their numbers among os and ns
 pub record PairsWritten (os ns ms : List Text) (at : ℕ) (w₀ w : List ℕ) : Type 0 where
   pub kept : Kept at (at + 128) w₀ w
   pub up : PairedUp os ns ms (part at (at + 128) w)

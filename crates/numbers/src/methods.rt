@@ -1,4 +1,4 @@
-// The trial methods, as pairs from `at` on: the number of each among old's methods, and 64 places on its number among new's.
+// The trial methods, as pairs from `at` on: the number of each among old's methods, and 64 numbers on its number among new's.
 ghost use mathlib.Core.Path.{_≡_};
 ghost use Prim.Native.Nat.{_+_, _≤_, _<_};
 ghost use lib.ListN.{length};

@@ -10,7 +10,7 @@ ghost use Rattle.reading.specs.Holds.{Holds};
 ghost use Rattle.reading.specs.Views.{texts, viewAt};
 ghost use Rattle.decisions.specs.Matching.{isUnder};
 ghost use Rattle.matching.specs.Strengths.{Ends, starredStrength, leadBy};
-ghost use Rattle.grants.specs.Scratch.{stemStrength, leadingBy, placed};
+ghost use Rattle.grants.specs.Scratch.{stemStrength, leadingBy, bestNumber};
 ghost use Rattle.numbers.specs.Stemming.{isFirmText, Findable, Lacking};
 use deciding::joining;
 use entries::tables::Tally;
@@ -212,9 +212,9 @@ pub fn strongest_at(s: &[u8], w: &[u32], t: Tally, text: &[u8]) -> Leading
 }
 
 // What is written of the strongest: 0 where nothing matches, else twice its line from 1, and one more where it is firm.
-pub fn place_of(x: Leading) -> u32
+pub fn best_number(x: Leading) -> u32
     requires { ⌜ x .at < 1000 ⌝ }
-    ensures { λ r. ⌜ r ≡ placed x ⌝ }
+    ensures { λ r. ⌜ r ≡ bestNumber x ⌝ }
 {
     let at = x.at as u32;
     let most = x.most;

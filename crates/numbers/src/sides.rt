@@ -1,5 +1,5 @@
 // The table of a side: what each `pattern` line of a view says, with its roles in the numbers of new's, and how far the next line with
-// the same text is. Covers stand first, then marks, roles and gaps, 128 of each. The view stands in the 1,024 numbers of the work
+// the same text is. Covers stand first, then accesses, roles and gaps, 128 of each. The view stands in the 1,024 numbers of the work
 // table from `from` on, new's in those from 1,024 on, and the side is written from `at` on.
 ghost use mathlib.Core.Path.{_≡_};
 ghost use Prim.Native.Nat.{_+_, _≤_, _<_};
@@ -7,9 +7,9 @@ ghost use lib.ListN.{length};
 ghost use Rattle.text.specs.Texts.{part};
 ghost use Rattle.reading.specs.Holds.{Holds};
 ghost use Rattle.reading.specs.Views.{texts, coverAt, viewAt};
-ghost use Rattle.grants.specs.Sides.{accessMark, accessRoles, gapAt};
+ghost use Rattle.grants.specs.Sides.{accessNumber, accessRoles, gapAt};
 ghost use Rattle.numbers.specs.Gaps.{Gapable, GapsLent};
-ghost use Rattle.numbers.specs.Writes.{LinesWritten, Lent, Mapped, viewFrom, markAt, renumberedBy, rolesBy, Plain, SideWritten};
+ghost use Rattle.numbers.specs.Writes.{LinesWritten, Lent, Mapped, viewFrom, accessNumberAt, renumberedBy, rolesBy, Plain, SideWritten};
 use entries::tables;
 use entries::tables::Tally;
 use reading::held;
@@ -30,8 +30,8 @@ pub fn fill_covers(s: &[u8], w: &mut [u32], t: Tally, from: usize, at: usize)
 }
 
 // 0 open, 1 closed, 2 by role.
-pub fn mark_of(a: Access) -> u32
-    ensures { λ r. ⌜ r ≡ accessMark a ⌝ }
+pub fn access_number(a: Access) -> u32
+    ensures { λ r. ⌜ r ≡ accessNumber a ⌝ }
 {
     match a {
         Access::Open => 0,
@@ -51,29 +51,29 @@ pub fn roles_of(a: Access) -> u64
     }
 }
 
-// The mark of line k.
-pub fn mark_at(s: &[u8], w: &[u32], t: Tally, k: usize) -> u32
+// The number of line k's access.
+pub fn access_number_at(s: &[u8], w: &[u32], t: Tally, k: usize) -> u32
     requires { ⌜ Holds (now s) t (now w) × (k < length (texts (viewAt (now s) t (now w)))) ⌝ }
-    ensures { λ r. ⌜ r ≡ markAt (viewAt (now (s .entry)) t (now (w .entry))) k ⌝ }
+    ensures { λ r. ⌜ r ≡ accessNumberAt (viewAt (now (s .entry)) t (now (w .entry))) k ⌝ }
 {
-    mark_of(held::access_of(s, w, t, k))
+    access_number(held::access_of(s, w, t, k))
 }
 
-// The marks.
-pub fn fill_marks(s: &[u8], w: &mut [u32], t: Tally, from: usize, at: usize)
+// The accesses.
+pub fn fill_accesses(s: &[u8], w: &mut [u32], t: Tally, from: usize, at: usize)
     requires { ⌜ Lent (now s) t from at 128 (now w) ⌝ }
-    ensures { λ _. ⌜ LinesWritten (viewFrom (now (s .entry)) t from (now (w .entry))) markAt at (now (w .entry)) (now (w .exit)) ⌝ }
+    ensures { λ _. ⌜ LinesWritten (viewFrom (now (s .entry)) t from (now (w .entry))) accessNumberAt at (now (w .entry)) (now (w .exit)) ⌝ }
 {
     let n = held::pattern_count(s, &w[from..from + 1024], t);
     let mut k = 0;
     while k < n {
-        let v = mark_at(s, &w[from..from + 1024], t, k);
+        let v = access_number_at(s, &w[from..from + 1024], t, k);
         w[at + k] = v;
         k += 1;
     }
 }
 
-// The place of each of new's roles among those of the other view; how many there are.
+// The index of each of new's roles among those of the other view; how many there are.
 pub fn fill_map(
     new: &[u8],
     wn: &[u32],
@@ -84,7 +84,7 @@ pub fn fill_map(
     map: &mut [u32],
 ) -> usize
     requires { ⌜ Holds (now new) tn (now wn) × (Holds (now s) t (now w) × (length (now map) ≡ 32)) ⌝ }
-    ensures places { λ _. ⌜ Mapped (viewAt (now (new .entry)) tn (now (wn .entry)) .roles) (viewAt (now (s .entry)) t (now (w .entry)) .roles) (now (map .exit)) ⌝ }
+    ensures indices { λ _. ⌜ Mapped (viewAt (now (new .entry)) tn (now (wn .entry)) .roles) (viewAt (now (s .entry)) t (now (w .entry)) .roles) (now (map .exit)) ⌝ }
     ensures count { λ r. ⌜ r ≡ length (viewAt (now (new .entry)) tn (now (wn .entry)) .roles) ⌝ }
 {
     let n = held::role_count(new, wn, tn);
@@ -183,7 +183,7 @@ pub fn fill_plain(s: &[u8], w: &mut [u32], t: Tally, from: usize, f: usize, at: 
     ensures { λ _. ⌜ Plain (viewFrom (now (s .entry)) t from (now (w .entry))) at (now (w .entry)) (now (w .exit)) ⌝ }
 {
     fill_covers(s, w, t, from, at);
-    fill_marks(s, w, t, from, at + 128);
+    fill_accesses(s, w, t, from, at + 128);
     fill_gaps(s, w, t, from, f, at + 384);
 }
 

@@ -8,9 +8,9 @@ ghost use lib.ListN.{length, getD};
 ghost use Rattle.names.specs.Patterns.{default, kindOf, isPermitted};
 ghost use Rattle.reading.specs.Holds.{Holds};
 ghost use Rattle.reading.specs.Views.{texts, viewAt};
-ghost use Rattle.grants.specs.Scratch.{sortOf, stemPlace};
+ghost use Rattle.grants.specs.Scratch.{sortOf, stemBest};
 ghost use Rattle.numbers.specs.Writes.{Both, oldView, newView, oldTexts, newTexts};
-ghost use Rattle.numbers.specs.Stemming.{isFirmText, softPlace, Placeable, Spottable, SpotIs, Fresh, FreshIs, Stemmable, putStem, lastStem, StemOf, StemsLent, StemsWritten, FirstsLent, AllStems};
+ghost use Rattle.numbers.specs.Stemming.{isFirmText, softBest, BestSought, Spottable, SpotIs, Fresh, FreshIs, Stemmable, putStem, lastStem, StemOf, StemsLent, StemsWritten, FirstsLent, AllStems};
 use crate::searching;
 use entries::tables;
 use entries::tables::Tally;
@@ -47,7 +47,7 @@ pub fn is_firm(text: &[u8]) -> bool
 }
 
 // Line k, firm.
-pub fn own_place(k: usize) -> u32
+pub fn own_best(k: usize) -> u32
     requires { ⌜ k ≤ 128 ⌝ }
     ensures { λ r. ⌜ r ≡ 2 * (k + 1) + 1 ⌝ }
 {
@@ -55,9 +55,9 @@ pub fn own_place(k: usize) -> u32
 }
 
 // The best line of the stem of an extension that is line k of n, or of `/`: the root's where that is firm, else the extension's own where there is one.
-pub fn soft_place(text: &[u8], k: usize, n: usize, root: u32) -> u32
+pub fn soft_best(text: &[u8], k: usize, n: usize, root: u32) -> u32
     requires { ⌜ k ≤ 128 ⌝ }
-    ensures { λ r. ⌜ r ≡ softPlace (now (text .entry)) k n root ⌝ }
+    ensures { λ r. ⌜ r ≡ softBest (now (text .entry)) k n root ⌝ }
 {
     if root % 2 == 1 {
         return root;
@@ -72,26 +72,26 @@ pub fn soft_place(text: &[u8], k: usize, n: usize, root: u32) -> u32
 }
 
 // The best line of the stem of a text in a view where the text is line k, and the best line of `/`filler is `root`.
-pub fn place_at(s: &[u8], w: &[u32], t: Tally, text: &[u8], k: usize, root: u32) -> u32
-    requires { ⌜ Placeable (now s) t (now w) (now text) k root ⌝ }
-    ensures { λ r. ⌜ r ≡ stemPlace (texts (viewAt (now (s .entry)) t (now (w .entry)))) (kindOf (now (text .entry))) ⌝ }
+pub fn best_at(s: &[u8], w: &[u32], t: Tally, text: &[u8], k: usize, root: u32) -> u32
+    requires { ⌜ BestSought (now s) t (now w) (now text) k root ⌝ }
+    ensures { λ r. ⌜ r ≡ stemBest (texts (viewAt (now (s .entry)) t (now (w .entry)))) (kindOf (now (text .entry))) ⌝ }
 {
     let n = held::pattern_count(s, w, t);
     if !is_firm(text) {
-        return soft_place(text, k, n, root);
+        return soft_best(text, k, n, root);
     }
     if k < n {
-        return own_place(k);
+        return own_best(k);
     }
-    searching::place_of(searching::strongest_at(s, w, t, text))
+    searching::best_number(searching::strongest_at(s, w, t, text))
 }
 
 // The best line of `/`filler.
-pub fn last_place(s: &[u8], w: &[u32], t: Tally) -> u32
+pub fn last_best(s: &[u8], w: &[u32], t: Tally) -> u32
     requires { ⌜ Holds (now s) t (now w) ⌝ }
-    ensures { λ r. ⌜ r ≡ stemPlace (texts (viewAt (now (s .entry)) t (now (w .entry)))) default ⌝ }
+    ensures { λ r. ⌜ r ≡ stemBest (texts (viewAt (now (s .entry)) t (now (w .entry)))) default ⌝ }
 {
-    searching::place_of(searching::strongest_below(s, w, t, b""))
+    searching::best_number(searching::strongest_below(s, w, t, b""))
 }
 
 // 1: one path; 2: a path, then with each extension behind it; 3: one path, and an extension.
@@ -174,8 +174,8 @@ pub fn stem_of(
     let root_new = last.in_new;
     Stem {
         sort: sort_of(text),
-        in_old: place_at(old, wo, pair.old, text, k, root_old),
-        in_new: place_at(new, wn, pair.new, text, i, root_new),
+        in_old: best_at(old, wo, pair.old, text, k, root_old),
+        in_new: best_at(new, wn, pair.new, text, i, root_new),
     }
 }
 
@@ -254,8 +254,8 @@ pub fn last_stem(old: &[u8], new: &[u8], wo: &[u32], wn: &[u32], pair: Pair) -> 
 {
     Stem {
         sort: 1,
-        in_old: last_place(old, wo, pair.old),
-        in_new: last_place(new, wn, pair.new),
+        in_old: last_best(old, wo, pair.old),
+        in_new: last_best(new, wn, pair.new),
     }
 }
 

@@ -9,7 +9,7 @@ use lib.Dec.{ltb}
 use borrow.Author.Tests.{ltb-true, ltb-false}
 use Rattle.text.specs.Texts.{Text, member, known, run, distinct, onLast, indexOf}
 use Rattle.text.proofs.Indices.{run-snoc, length-snoc, index-bound, index-member, index-front, index-behind, Begins, begins-front}
-use Rattle.listings.specs.Records.{Record, placeOf, placeAfter, isKind, fieldsWhere, namesRole, namesMethod, declaredIn, rolesIn, methodsIn}
+use Rattle.listings.specs.Records.{Record, stageOf, stageAfter, isKind, fieldsWhere, namesRole, namesMethod, declaredIn, rolesIn, methodsIn}
 use Rattle.listings.specs.Counts.{count}
 use Rattle.entries.specs.Tables.{startTables, indexed, tablesWith, tablesOf}
 use Rattle.listings.specs.declared.records.Kind.{Kind}
@@ -33,12 +33,12 @@ unfolding indexed known
 indexed-known t us = ap (λ (b : Bool). cond b us (us ++ t ∷ [])) (index-member t us)
 
 -- ---- one record more
--- the place after it is its own
-pub place-snoc : (rs : List Record) (r : Record) → placeAfter (rs ++ r ∷ []) ≡ placeOf r
-unfolding placeAfter
-place-snoc [] r = refl
-place-snoc (q ∷ []) r = refl
-place-snoc (q ∷ p ∷ rs) r = place-snoc (p ∷ rs) r
+-- the stage after it is its own
+pub stage-snoc : (rs : List Record) (r : Record) → stageAfter (rs ++ r ∷ []) ≡ stageOf r
+unfolding stageAfter
+stage-snoc [] r = refl
+stage-snoc (q ∷ []) r = refl
+stage-snoc (q ∷ p ∷ rs) r = stage-snoc (p ∷ rs) r
 
 -- its field comes last, if it passes
 pub fields-snoc : (test : Record → Bool) (rs : List Record) (r : Record) →
@@ -94,8 +94,8 @@ module _ (rs : List Record) (r : Record) where
   unfolding tablesOf
   tables-snoc = run-snoc tablesWith startTables rs r
 
--- ---- places that are settled
--- a text put behind them, if it is none of them, has its place for good
+-- ---- indices that are settled
+-- a text put behind them, if it is none of them, has its index for good
 module _ (t : Text) (us ws : List Text) where
   pub begins-indexed : Begins (indexed t us) ws → Begins us ws
   unfolding indexed

@@ -122,7 +122,7 @@ line-is : (T : Tables) (t : Text) (l : Line) (ls : List Line) (r : Option Record
 unfolding lineFrom
 line-is T t l ls r e f = ap (lineFrom T) e ∙ ap (λ (x : Option Record). lineWith T x ls) f
 
--- ---- the field at a place of the text
+-- ---- the field at an offset of the text
 -- where a field stops, a byte stops it
 stop-byte : (t : Text) → toFieldEnd t < length t → stops (getD t (toFieldEnd t) 0) ≡ true
 unfolding toFieldEnd
@@ -173,7 +173,7 @@ module _ (s : Text) (at p : ℕ) (q : p ≡ at + toFieldEnd (drop at s)) where
   field-last : length s ≤ p → drop at s ≡ part at p s
   field-last h = field-then ∙ rw (drop-of-length-le s h) (append-nil (part at p s))
 
-  -- ---- the line at a place of the text
+  -- ---- the line at an offset of the text
   module _ (T : Tables) (h : at < length s) where
     pub line-unended : length s ≤ p → lineFrom T (linesOf (drop at s)) ≡ bad BadForm
     line-unended g =
@@ -190,7 +190,7 @@ module _ (s : Text) (at p : ℕ) (q : p ≡ at + toFieldEnd (drop at s)) where
 pub part-none : (s : Text) (p : ℕ) → part p p s ≡ []
 part-none s p = let z : p - p ≡ 0 = omega arith in rw z
 
--- ---- the line at a place of the text, with a tab behind its first field
+-- ---- the line at an offset of the text, with a tab behind its first field
 module _ (s : Text) (at p e : ℕ) (q : p ≡ at + toFieldEnd (drop at s)) (h : p < length s) (n : getD s p 0 ≡ 10 → ⊥) (k : e ≡ p + 1 + toFieldEnd (drop (p + 1) s)) (T : Tables) where
   first-field : Field (part at p s)
   first-field = field-cut s at p q

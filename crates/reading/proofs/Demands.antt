@@ -19,7 +19,7 @@ table-left w left e = record { short = λ h. e ∙ rw (lt-ltb (length w) workSiz
 
 -- demand 1
 pub reading-definite : EveryReadingIsDefinite
-reading-definite = record { answered = λ s w. (readReport s w, workAfter w, record { handed = refl; work = refl }); definite = definite }
+reading-definite = record { outcome = λ s w. (readReport s w, workAfter w, record { handed = refl; work = refl }); definite = definite }
   where
     definite : (s : Text) (w : List ℕ) (r : Report) (left : List ℕ) → ReadOutcome s w r left → DefiniteReading s w r left
     definite s w r left O =

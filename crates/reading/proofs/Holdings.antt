@@ -45,7 +45,7 @@ counted-number w a n (suc c) h l =
     let e : a + suc c ≡ a + 1 + c = omega arith in
     ap (λ (i : ℕ). getD w i 0) e ∙ sym (region-at w (a + 1) n c (omega arith))
 
--- ---- a place of the listing's numbers is in the table, and small
+-- ---- an offset of the listing's numbers is in the table, and small
 module _ (n : ℕ) (h : n < 720) where
   pub near-fits : n < 2 ^ 64
   near-fits = omega arith
@@ -81,13 +81,13 @@ module _ (s : Text) (t : Tally) (w : List ℕ) (H : Holds s t w) where
       sym (region-length w 64 (t .patterns) (omega (arith, H .fits .room, H .fits .patterns))) ∙ sym (spans-length s (region w 64 (t .patterns))) ∙ ap length spanned-texts
 
   -- ---- where
-  pub role-place : (n : Text) (r : ℕ) → r ≡ indexOf n (textsAt s (region w 0 (t .roles))) → r ≡ indexOf n (viewAt s t w .roles)
+  pub role-indexed : (n : Text) (r : ℕ) → r ≡ indexOf n (textsAt s (region w 0 (t .roles))) → r ≡ indexOf n (viewAt s t w .roles)
   unfolding viewAt viewIn tablesAt
-  role-place n r e = e
+  role-indexed n r e = e
 
-  pub method-place : (n : Text) (r : ℕ) → r ≡ indexOf n (textsAt s (region w 32 (t .methods))) → r ≡ indexOf n (viewAt s t w .methods)
+  pub method-indexed : (n : Text) (r : ℕ) → r ≡ indexOf n (textsAt s (region w 32 (t .methods))) → r ≡ indexOf n (viewAt s t w .methods)
   unfolding viewAt viewIn tablesAt
-  method-place n r e = e
+  method-indexed n r e = e
 
   -- ---- a role, a method: their number is in the table, and names the text
   module _ (i : ℕ) (h : i < length (viewAt s t w .roles)) where
@@ -162,7 +162,7 @@ module _ (s : Text) (t : Tally) (w : List ℕ) (H : Holds s t w) where
           same-parent : c ≡ getD (region w 320 (t .patterns)) k 0
           same-parent = e ∙ sym (region-at w 320 (t .patterns) k here)
 
-      -- by its mark
+      -- by the number of its access
       pub access-open : getD w (650 + c) 0 ≡ 0 → Open ≡ accessAt (viewAt s t w) k
       access-open m = rw m at rule-access
 

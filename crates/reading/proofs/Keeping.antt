@@ -1,4 +1,4 @@
--- What the tables keep of the records before: their place, counts and names. So what refuses a record over the tables is the first rule that it breaks.
+-- What the tables keep of the records before: their stage, counts and names. So what refuses a record over the tables is the first rule that it breaks.
 use mathlib.Core.Path.{_≡_, refl, sym, ap, _∙_}
 use mathlib.Core.Bool.{Bool, true, false, not, cond, _||_}
 use mathlib.Core.List.{List, [], _∷_, _++_, append-assoc, append-nil}
@@ -9,7 +9,7 @@ use lib.ListN.{length}
 use lib.Dec.{ltb, leb, leb·suc-suc}
 use borrow.Author.Tests.{le-ltb}
 use Rattle.text.specs.Texts.{Text, bytes, same, member, known, run, distinct, indexOf}
-use Rattle.listings.specs.Records.{Record, placeOf, placeAfter, mayFollow, isAmong, isKind, fieldsWhere, namesRole, namesMethod, declaredIn, rolesIn, methodsIn}
+use Rattle.listings.specs.Records.{Record, stageOf, stageAfter, mayFollow, isAmong, isKind, fieldsWhere, namesRole, namesMethod, declaredIn, rolesIn, methodsIn}
 use Rattle.names.specs.Names.{isStar, isRoleName}
 use Rattle.listings.specs.Fields.{nameFits, patternFits}
 use Rattle.limits.specs.Limits.{mostConstraints, mostCollections, mostPatterns, mostMethodLines, mostRoles, mostMethods}
@@ -18,17 +18,17 @@ use Rattle.listings.specs.Refusals.{declaresAgain, firstBroken}
 use Rattle.entries.specs.Tables.{Tables, indexed, fieldAdd, tablesWith, tablesOf, fieldCheck, checkRecord, recordWith}
 use Rattle.listings.specs.declared.records.Kind.{Kind}
 use Rattle.listings.specs.declared.records.Kind.the-variants.{Role, Constraint, Allow, Collection, Pattern, Method, Omit, End}
-use Rattle.listings.specs.declared.records.Place.the-variants.{AfterOpen, AfterAuth}
+use Rattle.listings.specs.declared.records.Stage.the-variants.{AfterOpen, AfterAuth}
 use Rattle.listings.specs.declared.answers.Fault.the-variants.{WrongPlace, PastMost}
 use Rattle.text.proofs.Truths.{never}
 use Rattle.text.proofs.Indices.{length-snoc, index-member}
-use Rattle.reading.proofs.Countings.{length-on-last, indexed-known, place-snoc, count-snoc, declared-snoc, roles-snoc, methods-snoc, tables-snoc}
+use Rattle.reading.proofs.Countings.{length-on-last, indexed-known, stage-snoc, count-snoc, declared-snoc, roles-snoc, methods-snoc, tables-snoc}
 use Rattle.listings.proofs.Sound.{Passes, Sound, sound-none, sound-more, faultBy, first-broken, Within, Few, few}
 
 -- what tables keep of records
 pub record Kept (rs : List Record) (T : Tables) : Type 0 where
-  pub place : T .place ≡ placeAfter rs
-  pub constraints : length (T .marks) ≡ count Constraint rs
+  pub stage : T .stage ≡ stageAfter rs
+  pub constraints : length (T .accesses) ≡ count Constraint rs
   pub collections : length (T .covers) ≡ count Collection rs
   pub patterns : length (T .patterns) ≡ count Pattern rs
   pub lines : T .lines ≡ count Method rs + count Omit rs
@@ -38,7 +38,7 @@ pub record Kept (rs : List Record) (T : Tables) : Type 0 where
   -- the declared roles are the first of them
   pub first : (more : List Text) × (T .roles ≡ declaredIn rs ++ more)
   -- and all of them, as long as `role` may follow
-  pub early : mayFollow (T .place) Role ≡ true → T .roles ≡ declaredIn rs
+  pub early : mayFollow (T .stage) Role ≡ true → T .roles ≡ declaredIn rs
   pub few : tooMany rs ≡ false
 
 -- ---- the mosts passed by one record more
@@ -126,7 +126,7 @@ module _ (rs : List Record) (T : Tables) (K : Kept rs T) where
   unfolding known namesRole
   past-at-role t m = past-snoc rs (recordWith Role t) ∙ rw (← K .roles, m, length-snoc (T .roles) t, K .roles) (past-role W)
 
-  past-at-constraint : (t : Text) → tooMany (rs ++ recordWith Constraint t ∷ []) ≡ leb mostConstraints (length (T .marks))
+  past-at-constraint : (t : Text) → tooMany (rs ++ recordWith Constraint t ∷ []) ≡ leb mostConstraints (length (T .accesses))
   unfolding namesRole
   past-at-constraint t = past-snoc rs (recordWith Constraint t) ∙ rw (K .constraints) (past-constraint W)
 
@@ -177,8 +177,8 @@ module _ (rs : List Record) (T : Tables) (K : Kept rs T) where
   unfolding namesRole
   past-at-omit t = past-snoc rs (recordWith Omit t) ∙ past-at-line t (count Method rs + suc (count Omit rs)) (omega arith)
 
-  -- what refuses a record in its right place
-  field-check : (k : Kind) (t : Text) → mayFollow (T .place) k ≡ true →
+  -- what refuses a record that may follow
+  field-check : (k : Kind) (t : Text) → mayFollow (T .stage) k ≡ true →
       fieldCheck k T t
       ≡ faultBy true (nameFits (recordWith k t)) (patternFits (recordWith k t)) (declaresAgain rs (recordWith k t)) (tooMany (rs ++ recordWith k t ∷ []))
   unfolding fieldCheck nameFits patternFits declaresAgain
@@ -199,9 +199,9 @@ module _ (rs : List Record) (T : Tables) (K : Kept rs T) where
   -- what refuses a record over the tables is the first rule that it breaks
   pub check-first : (r : Record) → checkRecord T r ≡ firstBroken rs r
   unfolding checkRecord
-  check-first r = go (mayFollow (T .place) (r .kind)) refl ∙ sym (first-broken rs r ∙ rw (K .place))
+  check-first r = go (mayFollow (T .stage) (r .kind)) refl ∙ sym (first-broken rs r ∙ rw (K .stage))
     where
-      go : (b : Bool) → mayFollow (T .place) (r .kind) ≡ b →
+      go : (b : Bool) → mayFollow (T .stage) (r .kind) ≡ b →
           cond b (fieldCheck (r .kind) T (r .field)) (some WrongPlace) ≡ faultBy b (nameFits r) (patternFits r) (declaresAgain rs r) (tooMany (rs ++ r ∷ []))
       go true e = field-check (r .kind) (r .field) e
       go false e = refl
@@ -209,14 +209,14 @@ module _ (rs : List Record) (T : Tables) (K : Kept rs T) where
 -- ---- the tables after one record more
 module _ (rs : List Record) (T : Tables) (K : Kept rs T) where
   -- ---- each part of the tables by the kind of record
-  added-place : (k : Kind) (t : Text) → fieldAdd k T t .place ≡ placeOf (recordWith k t)
-  unfolding fieldAdd placeOf
-  added-place k t = elim k [ Role ↦ refl | Constraint ↦ refl | Allow ↦ refl | Collection ↦ refl | Pattern ↦ refl | Method ↦ refl | Omit ↦ refl | End ↦ refl ]
+  added-stage : (k : Kind) (t : Text) → fieldAdd k T t .stage ≡ stageOf (recordWith k t)
+  unfolding fieldAdd stageOf
+  added-stage k t = elim k [ Role ↦ refl | Constraint ↦ refl | Allow ↦ refl | Collection ↦ refl | Pattern ↦ refl | Method ↦ refl | Omit ↦ refl | End ↦ refl ]
 
-  added-marks : (k : Kind) (t : Text) →
-      length (fieldAdd k T t .marks) ≡ cond (isKind Constraint (recordWith k t)) (suc (length (T .marks))) (length (T .marks))
+  added-accesses : (k : Kind) (t : Text) →
+      length (fieldAdd k T t .accesses) ≡ cond (isKind Constraint (recordWith k t)) (suc (length (T .accesses))) (length (T .accesses))
   unfolding fieldAdd
-  added-marks k t =
+  added-accesses k t =
       elim k [
         | Role ↦ refl
         | Constraint ↦ rw length-snoc
@@ -298,7 +298,7 @@ module _ (rs : List Record) (T : Tables) (K : Kept rs T) where
 
   -- where `role` stands, the roles are the declared ones
   all-declared : (t : Text) → Passes rs (recordWith Role t) → T .roles ≡ declaredIn rs
-  all-declared t p = K .early (rw (K .place) (p .place))
+  all-declared t p = K .early (rw (K .stage) (p .stage))
 
   -- so the new one is none of them
   fresh : (t : Text) → Passes rs (recordWith Role t) → member t (T .roles) ≡ false
@@ -372,8 +372,8 @@ module _ (rs : List Record) (T : Tables) (K : Kept rs T) where
 
   -- `role` may follow only behind roles
   added-early : (k : Kind) (t : Text) → Passes rs (recordWith k t) →
-      mayFollow (placeOf (recordWith k t)) Role ≡ true → fieldAdd k T t .roles ≡ declaredIn (rs ++ recordWith k t ∷ [])
-  unfolding fieldAdd placeOf mayFollow isAmong
+      mayFollow (stageOf (recordWith k t)) Role ≡ true → fieldAdd k T t .roles ≡ declaredIn (rs ++ recordWith k t ∷ [])
+  unfolding fieldAdd stageOf mayFollow isAmong
   added-early Role t p e = rw (all-declared t p) (sym (declared-snoc rs (recordWith Role t)))
   added-early Constraint t p e = absurd (go (same t (bytes "open")) e)
     where
@@ -390,8 +390,8 @@ module _ (rs : List Record) (T : Tables) (K : Kept rs T) where
   -- the tables keep all of it over one record more
   pub kept-more : (r : Record) → Passes rs r → Kept (rs ++ r ∷ []) (tablesWith T r)
   kept-more r p = record {
-    place = added-place (r .kind) (r .field) ∙ sym (place-snoc rs r);
-    constraints = counted r Constraint _ _ (added-marks (r .kind) (r .field)) (K .constraints);
+    stage = added-stage (r .kind) (r .field) ∙ sym (stage-snoc rs r);
+    constraints = counted r Constraint _ _ (added-accesses (r .kind) (r .field)) (K .constraints);
     collections = counted r Collection _ _ (added-covers (r .kind) (r .field)) (K .collections);
     patterns = counted r Pattern _ _ (added-patterns (r .kind) (r .field)) (K .patterns);
     lines = added-lines (r .kind) (r .field);
@@ -399,16 +399,16 @@ module _ (rs : List Record) (T : Tables) (K : Kept rs T) where
     methods = added-methods (r .kind) (r .field);
     declared = added-declared (r .kind) (r .field);
     first = added-first (r .kind) (r .field) p;
-    early = λ e. added-early (r .kind) (r .field) p (rw (added-place (r .kind) (r .field)) at e);
+    early = λ e. added-early (r .kind) (r .field) p (rw (added-stage (r .kind) (r .field)) at e);
     few = p .few;
   }
 
 -- the tables of sound records
 pub kept : (rs : List Record) → Sound rs → Kept rs (tablesOf rs)
-unfolding tablesOf run placeAfter count fieldsWhere rolesIn methodsIn declaredIn distinct tooMany
+unfolding tablesOf run stageAfter count fieldsWhere rolesIn methodsIn declaredIn distinct tooMany
 kept rs sound-none =
     record {
-      place = refl;
+      stage = refl;
       constraints = refl;
       collections = refl;
       patterns = refl;

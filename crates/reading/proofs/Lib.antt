@@ -9,7 +9,7 @@
 -- The code, module by module:
 --   Cuts        lines: a text cut at its tabs and bytes 10
 --   Lineheads   how a line begins
---   Linecuts    a line cut at a place, and what it comes to
+--   Linecuts    a line cut at an offset, and what it comes to
 --   Tokens      what the walks over the struct that holds the text share
 --   Walks       from a record's step to its line, and on to the whole reading
 --   Loads       the whole of reading

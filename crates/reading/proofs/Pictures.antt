@@ -18,8 +18,8 @@ use Rattle.entries.specs.Tables.{Tables, indexed, fieldAdd, tablesOf, recordWit
 use Rattle.entries.specs.Tables as Tab
 use Rattle.listings.specs.declared.records.Kind.{Kind}
 use Rattle.listings.specs.declared.records.Kind.the-variants.{Role, Constraint, Allow, Collection, Pattern, Method, Omit, End}
-use Rattle.listings.specs.declared.records.Place.{Place}
-use Rattle.listings.specs.declared.records.Place.the-variants.{AfterFirst, AfterRole, AfterOpen, AfterAuth, AfterAllow, AfterCollection, AfterPattern, AfterMethod, AfterOmit, AfterEnd}
+use Rattle.listings.specs.declared.records.Stage.{Stage}
+use Rattle.listings.specs.declared.records.Stage.the-variants.{AfterFirst, AfterRole, AfterOpen, AfterAuth, AfterAllow, AfterCollection, AfterPattern, AfterMethod, AfterOmit, AfterEnd}
 use Rattle.text.proofs.Truths.{never}
 use Rattle.text.proofs.Indices.{run-snoc, once-distinct, Begins, begins-front}
 use Rattle.entries.proofs.Regions.{on-last-snoc}
@@ -41,8 +41,8 @@ abbrev pub patternsIn : Constrained → List Text
 patternsIn k = flatMap patternsOf (k .collections)
 
 -- 0 for `open`, 1 for `auth` without `allow`, 2 for `auth` with one
-abbrev pub markOf : Constrained → ℕ
-markOf k = cond (k .isOpen) 0 (cond (isEmpty (k .allowed)) 1 2)
+abbrev pub accessNumberOf : Constrained → ℕ
+accessNumberOf k = cond (k .isOpen) 0 (cond (isEmpty (k .allowed)) 1 2)
 
 -- ---- where the reader stands among the constraints
 -- there is a last constraint
@@ -65,7 +65,7 @@ record Inside (bare : Bool) (cs : List Constrained) : Type 0 where
   empty : isEmpty (collection .methods) ≡ bare
 
 -- what has to stand there for a record to follow
-record Shaped (p : Place) (cs : List Constrained) : Type 0 where
+record Shaped (p : Stage) (cs : List Constrained) : Type 0 where
   role : mayFollow p Role ≡ true → cs ≡ []
   allow : mayFollow p Allow ≡ true → Closing cs
   collection : mayFollow p Collection ≡ true → Last cs
@@ -76,16 +76,16 @@ record Shaped (p : Place) (cs : List Constrained) : Type 0 where
 -- ---- what the tables picture
 -- given all methods and roles of the listing, and the roles declared so far
 pub record Pictured (methods roles declared : List Text) (T : Tables) (cs : List Constrained) : Type 0 where
-  shaped : Shaped (T .place) cs
+  shaped : Shaped (T .stage) cs
   pub covers : T .covers ≡ map (coverIn methods) (collectionsOf cs)
   pub allows : T .allows ≡ map (admitIn roles declared) cs
-  pub marks : T .marks ≡ map markOf cs
+  pub accesses : T .accesses ≡ map accessNumberOf cs
   pub patterns : T .patterns ≡ flatMap patternsOf (collectionsOf cs)
   pub owners : T .owners ≡ numbers 1 (map patternsOf (collectionsOf cs))
   pub parents : T .parents ≡ numbers 1 (map patternsIn cs)
 
 -- ---- the shapes
-abbrev Stands : Place → List Constrained → Type 0
+abbrev Stands : Stage → List Constrained → Type 0
 Stands AfterFirst cs = cs ≡ []
 Stands AfterRole cs = cs ≡ []
 Stands AfterOpen cs = Last cs
@@ -103,7 +103,7 @@ no e = absurd (never false e refl)
 abbrev ending : (front : List Constrained) (last : Constrained) → Last (front ++ last ∷ [])
 ending front last = record { front = front; last = last; split = refl }
 
-shaped-at : (p : Place) (cs : List Constrained) → Stands p cs → Shaped p cs
+shaped-at : (p : Stage) (cs : List Constrained) → Stands p cs → Shaped p cs
 unfolding mayFollow isAmong
 shaped-at AfterFirst cs e = record { role = λ h. e; allow = no; collection = no; pattern = no; method = no; omit = no }
 shaped-at AfterRole cs e = record { role = λ h. e; allow = no; collection = no; pattern = no; method = no; omit = no }
@@ -117,8 +117,8 @@ shaped-at AfterOmit cs i = record { role = no; allow = no; collection = λ h. i 
 shaped-at AfterEnd cs u = record { role = no; allow = no; collection = no; pattern = no; method = no; omit = no }
 
 -- ---- one record more
-mark-allowed : (k : Constrained) (n : Text) → k .isOpen ≡ false → 2 ≡ markOf (addAllowed n k)
-mark-allowed k n e = rw (e, empty-snoc (k .allowed) n)
+access-allowed : (k : Constrained) (n : Text) → k .isOpen ≡ false → 2 ≡ accessNumberOf (addAllowed n k)
+access-allowed k n e = rw (e, empty-snoc (k .allowed) n)
 
 module _ (methods roles declared : List Text) (T : Tables) (cs : List Constrained) (P : Pictured methods roles declared T cs) where
   at-role : (n : Text) → cs ≡ [] → Pictured methods roles (declared ++ n ∷ []) (Tab.addRole T n) cs
@@ -126,7 +126,7 @@ module _ (methods roles declared : List Text) (T : Tables) (cs : List Constraine
     shaped = shaped-at AfterRole cs e;
     covers = P .covers;
     allows = P .allows ∙ rw e;
-    marks = P .marks;
+    accesses = P .accesses;
     patterns = P .patterns;
     owners = P .owners;
     parents = P .parents;
@@ -137,7 +137,7 @@ module _ (methods roles declared : List Text) (T : Tables) (cs : List Constraine
     shaped = shaped-at AfterEnd cs tt;
     covers = P .covers;
     allows = P .allows;
-    marks = P .marks;
+    accesses = P .accesses;
     patterns = P .patterns;
     owners = P .owners;
     parents = P .parents;
@@ -151,7 +151,7 @@ module _ (methods roles declared : List Text) (T : Tables) (cs : List Constraine
     covers = P .covers ∙ ap (map (coverIn methods)) flat;
     allows = ap (λ (l : List ℕ). l ++ 0 ∷ []) (P .allows)
         ∙ rw (map-append (admitIn roles declared) cs (newConstraint word ∷ []), ← admit-new roles declared word);
-    marks = ap (λ (l : List ℕ). l ++ cond (same word (bytes "open")) 0 1 ∷ []) (P .marks) ∙ sym (map-append markOf cs (newConstraint word ∷ []));
+    accesses = ap (λ (l : List ℕ). l ++ cond (same word (bytes "open")) 0 1 ∷ []) (P .accesses) ∙ sym (map-append accessNumberOf cs (newConstraint word ∷ []));
     patterns = P .patterns ∙ ap (flatMap patternsOf) flat;
     owners = P .owners ∙ ap (λ (es : List Collected). numbers 1 (map patternsOf es)) flat;
     parents = P .parents ∙ sym (ap (numbers 1) (map-append patternsIn cs (newConstraint word ∷ [])) ∙ numbers-none 1 (map patternsIn cs));
@@ -175,8 +175,8 @@ module _ (methods roles declared : List Text) (T : Tables) (cs : List Constraine
     kept-allows : admitIn roles declared (l .last) ≡ admitIn roles declared new → T .allows ≡ map (admitIn roles declared) (l .front ++ new ∷ [])
     kept-allows e = P .allows ∙ ap (map (admitIn roles declared)) (l .split) ∙ map-kept (admitIn roles declared) (l .front) (l .last) new e
 
-    kept-marks : markOf (l .last) ≡ markOf new → T .marks ≡ map markOf (l .front ++ new ∷ [])
-    kept-marks e = P .marks ∙ ap (map markOf) (l .split) ∙ map-kept markOf (l .front) (l .last) new e
+    kept-accesses : accessNumberOf (l .last) ≡ accessNumberOf new → T .accesses ≡ map accessNumberOf (l .front ++ new ∷ [])
+    kept-accesses e = P .accesses ∙ ap (map accessNumberOf) (l .split) ∙ map-kept accessNumberOf (l .front) (l .last) new e
 
     kept-parents : patternsIn (l .last) ≡ patternsIn new → T .parents ≡ numbers 1 (map patternsIn (l .front ++ new ∷ []))
     kept-parents e =
@@ -198,9 +198,9 @@ module _ (methods roles declared : List Text) (T : Tables) (cs : List Constraine
     allows =
         ap (onLast (Tab.addAllowTo T n)) (P .allows ∙ ap (map (admitIn roles declared)) (l .split))
         ∙ map-last (admitIn roles declared) (l .front) (l .last) new (Tab.addAllowTo T n) e;
-    marks =
-        ap (onLast (λ (x : ℕ). 2)) (P .marks ∙ ap (map markOf) (l .split))
-        ∙ map-last markOf (l .front) (l .last) new (λ (x : ℕ). 2) (mark-allowed (l .last) n (c .closed));
+    accesses =
+        ap (onLast (λ (x : ℕ). 2)) (P .accesses ∙ ap (map accessNumberOf) (l .split))
+        ∙ map-last accessNumberOf (l .front) (l .last) new (λ (x : ℕ). 2) (access-allowed (l .last) n (c .closed));
     patterns = P .patterns ∙ ap (flatMap patternsOf) flat;
     owners = P .owners ∙ ap (λ (es : List Collected). numbers 1 (map patternsOf es)) flat;
     parents = kept-parents l new refl;
@@ -224,7 +224,7 @@ module _ (methods roles declared : List Text) (T : Tables) (cs : List Constraine
         ap (λ (xs : List ℕ). xs ++ everything ∷ []) (P .covers)
         ∙ sym (ap (map (coverIn methods)) flat ∙ map-append (coverIn methods) (collectionsOf cs) (fresh ∷ []) ∙ rw (← cover-new methods));
     allows = kept-allows l new refl;
-    marks = kept-marks l new refl;
+    accesses = kept-accesses l new refl;
     patterns =
         P .patterns ∙ sym (ap (flatMap patternsOf) flat ∙ flat-snoc patternsOf (collectionsOf cs) fresh ∙ append-nil (flatMap patternsOf (collectionsOf cs)));
     owners =
@@ -281,8 +281,8 @@ module _ (methods roles declared : List Text) (T : Tables) (cs : List Constraine
 
     -- by a `method` or an `omit` line
     at-line : (U : Tables) (g : ℕ → ℕ) → g (coverIn methods (i .collection)) ≡ coverIn methods (f (i .collection)) →
-        f (i .collection) .patterns ≡ i .collection .patterns → Shaped (U .place) (i .at .front ++ altered ∷ []) →
-        U .covers ≡ onLast g (T .covers) → U .allows ≡ T .allows → U .marks ≡ T .marks → U .patterns ≡ T .patterns → U .owners ≡ T .owners →
+        f (i .collection) .patterns ≡ i .collection .patterns → Shaped (U .stage) (i .at .front ++ altered ∷ []) →
+        U .covers ≡ onLast g (T .covers) → U .allows ≡ T .allows → U .accesses ≡ T .accesses → U .patterns ≡ T .patterns → U .owners ≡ T .owners →
         U .parents ≡ T .parents → Pictured methods roles declared U (onLast (inCollection f) cs)
     unfolding admits
     at-line U g e p s u₁ u₂ u₃ u₄ u₅ u₆ = rw on-collection (record {
@@ -291,7 +291,7 @@ module _ (methods roles declared : List Text) (T : Tables) (cs : List Constraine
           u₁ ∙ ap (onLast g) (P .covers ∙ ap (map (coverIn methods)) before-change)
           ∙ map-last (coverIn methods) earlier (i .collection) (f (i .collection)) g e ∙ ap (map (coverIn methods)) (sym after-change);
       allows = u₂ ∙ kept-allows (i .at) altered refl;
-      marks = u₃ ∙ kept-marks (i .at) altered refl;
+      accesses = u₃ ∙ kept-accesses (i .at) altered refl;
       patterns =
           u₄ ∙ P .patterns ∙ ap (flatMap patternsOf) before-change ∙ flat-kept patternsOf earlier (i .collection) (f (i .collection)) (sym p)
           ∙ ap (flatMap patternsOf) (sym after-change);
@@ -312,7 +312,7 @@ module _ (methods roles declared : List Text) (T : Tables) (cs : List Constraine
         P .covers ∙ ap (map (coverIn methods)) (before-change i f)
         ∙ map-kept (coverIn methods) (earlier i f) (i .collection) (f (i .collection)) refl ∙ ap (map (coverIn methods)) (sym (after-change i f));
     allows = kept-allows (i .at) new refl;
-    marks = kept-marks (i .at) new refl;
+    accesses = kept-accesses (i .at) new refl;
     patterns =
         ap (λ (ts : List Text). ts ++ t ∷ []) (P .patterns ∙ ap (flatMap patternsOf) (before-change i f))
         ∙ sym (ap (flatMap patternsOf) (after-change i f) ∙ flat-more patternsOf (earlier i f) (i .collection) (f (i .collection)) t refl);
@@ -322,9 +322,9 @@ module _ (methods roles declared : List Text) (T : Tables) (cs : List Constraine
         (ap length (P .covers) ∙ length-map (collectionsOf cs) (coverIn methods) ∙ ap length (before-change i f))
         ∙ ap (λ (es : List Collected). numbers 1 (map patternsOf es)) (sym (after-change i f));
     parents =
-        ap (λ (ns : List ℕ). ns ++ length (T .marks) ∷ []) (P .parents ∙ ap (λ (l : List Constrained). numbers 1 (map patternsIn l)) (i .at .split))
-        ∙ numbered-more patternsIn (i .at .front) (i .at .last) new t (length (T .marks)) within
-        (ap length (P .marks) ∙ length-map cs markOf ∙ ap length (i .at .split));
+        ap (λ (ns : List ℕ). ns ++ length (T .accesses) ∷ []) (P .parents ∙ ap (λ (l : List Constrained). numbers 1 (map patternsIn l)) (i .at .split))
+        ∙ numbered-more patternsIn (i .at .front) (i .at .last) new t (length (T .accesses)) within
+        (ap length (P .accesses) ∙ length-map cs accessNumberOf ∙ ap length (i .at .split));
   })
     where
       f : Collected → Collected
@@ -339,7 +339,7 @@ module _ (methods roles declared : List Text) (T : Tables) (cs : List Constraine
           ∙ ap (λ (es : List Collected). flatMap patternsOf es ++ t ∷ []) (sym (i .parts))
 
   module _ (once : Once methods) (few : length methods ≤ 32) (m : Text) (named : m ≡ [] → ⊥) (begins : Begins (indexed m (T .methods)) methods) where
-    at-method : Inside (isFirstMethod (T .place)) cs → Pictured methods roles declared (Tab.addMethod T m) (onLast (inCollection (addMethod m)) cs)
+    at-method : Inside (isFirstMethod (T .stage)) cs → Pictured methods roles declared (Tab.addMethod T m) (onLast (inCollection (addMethod m)) cs)
     at-method i =
         let h = settled m (T .methods) methods begins in
         at-line i (addMethod m) (Tab.addMethod T m) (Tab.addMethodTo T m)
@@ -378,7 +378,7 @@ constraints-snoc rs r = run-snoc adds [] rs r
 module _ (methods roles : List Text) (once-m : Once methods) (once-r : Once roles) (few-m : length methods ≤ 32) (few-r : length roles ≤ 32) where
   -- one more of any kind
   picture-more : (declared : List Text) (T : Tables) (cs : List Constrained) → Pictured methods roles declared T cs →
-      T .declared ≡ length declared → Begins declared roles → (k : Kind) (t : Text) → mayFollow (T .place) k ≡ true → nameFits (recordWith k t) ≡ true →
+      T .declared ≡ length declared → Begins declared roles → (k : Kind) (t : Text) → mayFollow (T .stage) k ≡ true → nameFits (recordWith k t) ≡ true →
       Begins (fieldAdd k T t .methods) methods → Begins (fieldAdd k T t .roles) roles →
       Pictured methods roles (cond (isKind Role (recordWith k t)) (declared ++ t ∷ []) declared) (fieldAdd k T t) (adds cs (recordWith k t))
   unfolding fieldAdd adds nameFits
@@ -434,7 +434,7 @@ module _ (methods roles : List Text) (once-m : Once methods) (once-r : Once role
   -- none
   picture-none : Drawn []
   unfolding Drawn tablesOf constraintsIn run declaredIn fieldsWhere flatMap numbers
-  picture-none = record { shaped = shaped-at AfterFirst [] refl; covers = refl; allows = refl; marks = refl; patterns = refl; owners = refl; parents = refl }
+  picture-none = record { shaped = shaped-at AfterFirst [] refl; covers = refl; allows = refl; accesses = refl; patterns = refl; owners = refl; parents = refl }
 
   -- one more
   picture-snoc : (before : List Record) (r : Record) → Kept before (tablesOf before) → Passes before r →
@@ -449,7 +449,7 @@ module _ (methods roles : List Text) (once-m : Once methods) (once-r : Once role
       (picture-more (declaredIn before) (tablesOf before) (constraintsIn before)
       (drawn (methods-before (tablesOf before) (r .kind) (r .field) m) b)
       (K .declared) (begins-front (declaredIn before) (K .first .0) roles (rw (K .first .1) at b))
-      (r .kind) (r .field) (rw (K .place) (p .place)) (p .name) m n)
+      (r .kind) (r .field) (rw (K .stage) (p .stage)) (p .name) m n)
 
   picture : (rs : List Record) → Sound rs → Begins (tablesOf rs .methods) methods → Begins (tablesOf rs .roles) roles → Drawn rs
   picture rs sound-none bm br = picture-none

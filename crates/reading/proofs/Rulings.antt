@@ -16,7 +16,7 @@ use Rattle.listings.proofs.Sound.{Sound}
 use Rattle.reading.proofs.Keeping.{kept}
 use Rattle.reading.proofs.Numberings.{flat-map, flat-flat, flat-same, numbers, numbers-length, numbers-bound, looked-up}
 use Rattle.reading.proofs.Viewings.{texts-of, cover-of, access-of, texts-in, cover-in, access-in, view-same}
-use Rattle.reading.proofs.Pictures.{collectionsOf, patternsIn, markOf, pictured}
+use Rattle.reading.proofs.Pictures.{collectionsOf, patternsIn, accessNumberOf, pictured}
 
 -- ---- the rules of a listing
 -- an image of the rules, by constraint and collection
@@ -54,14 +54,14 @@ module _ (l : Listing) where
       ∙ flat-same _ _ (l .constraints) (λ k. sym (flat-map (λ (c : Collected). c .patterns) (λ (t : Text). h k) (k .collections)))
 
 -- ---- numbers looked up
--- at place k
+-- at index k
 looked-at : {A : Type 0} (p : A → List Text) (g : A → ℕ) (xs : List A) (k : ℕ) →
     getD (0 ∷ map g xs) (getD (numbers 1 (map p xs)) k 0) 0 ≡ getD (flatMap (λ (x : A). map (λ (t : Text). g x) (p x)) xs) k 0
 looked-at p g xs k =
     sym (List·getD-map (λ (n : ℕ). getD (0 ∷ map g xs) n 0) (numbers 1 (map p xs)) k 0)
     ∙ ap (λ (l : List ℕ). getD l k 0) (looked-up p g 0 xs)
 
--- each number has its place
+-- each number has its index
 bounded : {A : Type 0} (p : A → List Text) (g : A → ℕ) (xs : List A) (ns ys : List ℕ) (k : ℕ) → ns ≡ numbers 1 (map p xs) → ys ≡ map g xs → k < length ns →
     (1 ≤ getD ns k 0) × (getD ns k 0 ≤ length ys)
 bounded p g xs ns ys k e f h =
@@ -75,8 +75,8 @@ both-at f g h e [] k = refl
 both-at f g h e (x ∷ xs) zero = e x
 both-at f g h e (x ∷ xs) (suc k) = both-at f g h e xs k
 
--- a constraint's mark and set say what it says
-access-by : (l : Listing) (k : Constrained) → accessBy (markOf k) (admitSet l k) ≡ accessOf l k
+-- the number of a constraint's access and its set say what it says
+access-by : (l : Listing) (k : Constrained) → accessBy (accessNumberOf k) (admitSet l k) ≡ accessOf l k
 unfolding accessOf closes
 access-by l k = go (k .isOpen) (isEmpty (k .allowed))
   where
@@ -94,7 +94,7 @@ pub record Pictures (T : Tables) (l : Listing) : Type 0 where
   pub owners : length (T .owners) ≡ length (patternsOf l)
   pub parents : length (T .parents) ≡ length (patternsOf l)
   pub owner : (k : ℕ) → k < length (patternsOf l) → (1 ≤ getD (T .owners) k 0) × (getD (T .owners) k 0 ≤ length (T .covers))
-  pub parent : (k : ℕ) → k < length (patternsOf l) → (1 ≤ getD (T .parents) k 0) × (getD (T .parents) k 0 ≤ length (T .marks))
+  pub parent : (k : ℕ) → k < length (patternsOf l) → (1 ≤ getD (T .parents) k 0) × (getD (T .parents) k 0 ≤ length (T .accesses))
   -- what they say, line by line
   pub view : viewIn T ≡ viewOf l
 
@@ -108,9 +108,9 @@ module _ (rs : List Record) (s : Sound rs) where
   unfolding listingIn admitSet
   listed-allows = pictured rs s .allows
 
-  listed-marks : tablesOf rs .marks ≡ map markOf (listingIn rs .constraints)
+  listed-accesses : tablesOf rs .accesses ≡ map accessNumberOf (listingIn rs .constraints)
   unfolding listingIn
-  listed-marks = pictured rs s .marks
+  listed-accesses = pictured rs s .accesses
 
   listed-patterns : tablesOf rs .patterns ≡ patternsOf (listingIn rs)
   unfolding listingIn
@@ -150,9 +150,9 @@ module _ (rs : List Record) (s : Sound rs) where
       (tablesOf rs .owners) (tablesOf rs .covers) k listed-owners listed-covers (omega (arith, owner-count))
 
   parent-bound : (k : ℕ) → k < length (patternsOf (listingIn rs)) →
-      (1 ≤ getD (tablesOf rs .parents) k 0) × (getD (tablesOf rs .parents) k 0 ≤ length (tablesOf rs .marks))
+      (1 ≤ getD (tablesOf rs .parents) k 0) × (getD (tablesOf rs .parents) k 0 ≤ length (tablesOf rs .accesses))
   parent-bound k h =
-      bounded patternsIn markOf (listingIn rs .constraints) (tablesOf rs .parents) (tablesOf rs .marks) k listed-parents listed-marks (omega (arith, parent-count))
+      bounded patternsIn accessNumberOf (listingIn rs .constraints) (tablesOf rs .parents) (tablesOf rs .accesses) k listed-parents listed-accesses (omega (arith, parent-count))
 
   cover-at : (k : ℕ) → counted (tablesOf rs .covers) (getD (tablesOf rs .owners) k 0) ≡ coverAt (viewOf (listingIn rs)) k
   cover-at k =
@@ -162,11 +162,11 @@ module _ (rs : List Record) (s : Sound rs) where
       ∙ sym (cover-of (listingIn rs) k)
 
   access-at : (k : ℕ) →
-      accessBy (counted (tablesOf rs .marks) (getD (tablesOf rs .parents) k 0)) (counted (tablesOf rs .allows) (getD (tablesOf rs .parents) k 0))
+      accessBy (counted (tablesOf rs .accesses) (getD (tablesOf rs .parents) k 0)) (counted (tablesOf rs .allows) (getD (tablesOf rs .parents) k 0))
       ≡ accessAt (viewOf (listingIn rs)) k
   access-at k =
-      ap₂ accessBy (on-constraints markOf (tablesOf rs .marks) listed-marks) (on-constraints (admitSet (listingIn rs)) (tablesOf rs .allows) listed-allows)
-      ∙ both-at (λ (r : PatternLine). markOf (r .constraint)) (λ (r : PatternLine). admitSet (listingIn rs) (r .constraint))
+      ap₂ accessBy (on-constraints accessNumberOf (tablesOf rs .accesses) listed-accesses) (on-constraints (admitSet (listingIn rs)) (tablesOf rs .allows) listed-allows)
+      ∙ both-at (λ (r : PatternLine). accessNumberOf (r .constraint)) (λ (r : PatternLine). admitSet (listingIn rs) (r .constraint))
       (λ (r : PatternLine). accessOf (listingIn rs) (r .constraint))
       (λ r. access-by (listingIn rs) (r .constraint)) (patternLinesOf (listingIn rs)) k
       ∙ sym (access-of (listingIn rs) k)

@@ -67,7 +67,7 @@ module _ (T : Tables) where
   lines-cover (t ∷ ts) cs ks (suc k) h = lines-cover ts (drop 1 cs) (drop 1 ks) k (omega arith) ∙ ap (counted (T .covers)) (behind cs k)
 
   abbrev says : ℕ → Access
-  says n = accessBy (counted (T .marks) n) (counted (T .allows) n)
+  says n = accessBy (counted (T .accesses) n) (counted (T .allows) n)
 
   lines-access : (ts : List Text) (cs ks : List ℕ) (k : ℕ) → k < length ts → getD (map (λ (x : ViewLine). x .access) (linesIn T ts cs ks)) k Open ≡ says (getD ks k 0)
   unfolding linesIn
@@ -84,7 +84,7 @@ module _ (T : Tables) where
   cover-in = lines-cover (T .patterns) (T .owners) (T .parents)
 
   pub access-in : (k : ℕ) → k < length (T .patterns)
-      → accessAt (viewIn T) k ≡ accessBy (counted (T .marks) (getD (T .parents) k 0)) (counted (T .allows) (getD (T .parents) k 0))
+      → accessAt (viewIn T) k ≡ accessBy (counted (T .accesses) (getD (T .parents) k 0)) (counted (T .allows) (getD (T .parents) k 0))
   unfolding accessAt viewIn
   access-in = lines-access (T .patterns) (T .owners) (T .parents)
 

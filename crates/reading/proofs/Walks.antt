@@ -129,7 +129,7 @@ closed-fits s t d w f = go (ltb (d .at) (length s))
     go true = tt
     go false = f
 
--- the loop: the reading from the place where it began is that from the cursor on
+-- the loop: the reading from the offset where it began is that from the cursor on
 pub record Walking (s : Text) (at : ℕ) (w₀ : List ℕ) (w : List ℕ) (t : Tally) (c : Cursor) : Type 0 where
   pub due : fillFrom startTables 2 (linesOf (drop at s)) ≡ fillFrom (tablesAt s t w) (c .line) (linesOf (drop (c .at) s))
   pub fits : Fits s t w

@@ -1,4 +1,4 @@
--- The line at a place of the text, cut as the reader does. `proofs/Linecuts.antt` shows that by it the line of Lines and its record are read.
+-- The line at an offset of the text, cut as the reader does. `proofs/Linecuts.antt` shows that by it the line of Lines and its record are read.
 use Prim.Native.Nat.{ℕ, _+_, _<_}
 use mathlib.Core.Path.{_≡_}
 use lib.ListN.{length, drop, getD}
@@ -10,7 +10,7 @@ use Rattle.listings.specs.Heads.{headOf}
 use Rattle.listings.specs.declared.records.Headed.{Headed}
 use Rattle.reading.specs.declared.lines.Cut.{Cut}
 
--- a line stands at a place of s, and the class table is the right one
+-- a line stands at an offset of s, and the class table is the right one
 pub record Standing (table s : Text) (at : ℕ) : Type 0 where
   pub classes : table ≡ classTable
   pub here : at < length s
@@ -30,7 +30,7 @@ cutBy s h a = record {
   whole = eqb (getD s (endOf s a) 0) newline;
 }
 
--- the line at a place of s
+-- the line at an offset of s
 unfoldable pub cutOf : Text → ℕ → Cut
 unfolding headOf toFieldEnd all isText
 cutOf s at = cutBy s (headOf (drop at s)) (at + headOf (drop at s) .size)

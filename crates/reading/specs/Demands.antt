@@ -35,5 +35,5 @@ pub record DefiniteReading (s : Text) (w : List ℕ) (r : Report) (left : List �
 
 -- demand 1: whatever the listing and the work table, there is an outcome, and every outcome is definite
 pub record EveryReadingIsDefinite : Type 0 where
-  pub answered : (s : Text) (w : List ℕ) → (r : Report) × (left : List ℕ) × ReadOutcome s w r left
+  pub outcome : (s : Text) (w : List ℕ) → (r : Report) × (left : List ℕ) × ReadOutcome s w r left
   pub definite : (s : Text) (w : List ℕ) (r : Report) (left : List ℕ) → ReadOutcome s w r left → DefiniteReading s w r left

@@ -3,7 +3,7 @@
 --   Rows      the plain form of the refusals of a whole call, for the theorems that tie it to Outcomes
 --   Demands   what the customer asks, as types over the outcomes
 -- The next are for the proofs alone, and no public statement rests on a reader's believing them:
---   Cuts      the line at a place of the text, as the reader cuts it
+--   Cuts      the line at an offset of the text, as the reader cuts it
 --   Fillings  reading as it goes over the work table of `entries`
 --   Views     what a work table holds, as a value: `pattern` line by `pattern` line, as sets
 --   Readers   the reader, from where it stands in the text

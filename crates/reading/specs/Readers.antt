@@ -21,7 +21,7 @@ pub record Ready (s : Text) (at : ℕ) (w : List ℕ) : Type 0 where
   pub short : 1 ≤ at → length s ≤ mostBytes
   pub room : listingRoom ≤ length w
 
--- the same reader at another place
+-- the same reader at another offset
 abbrev pub standingAt : Reader → ℕ → Reader
 standingAt d at = record { text = d .text; at = at }
 

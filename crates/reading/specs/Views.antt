@@ -74,13 +74,13 @@ viewOf l = record {
 abbrev pub counted : List ℕ → ℕ → ℕ
 counted xs n = getD (0 ∷ xs) n 0
 
--- what a constraint says, by its mark and the roles that it allows
+-- what a constraint says, by the number of its access and the roles that it allows
 abbrev pub accessBy : ℕ → ℕ → Access
-accessBy mark allowed = cond (eqb mark 0) Open (cond (eqb mark 1) Closed (ByRole allowed))
+accessBy number allowed = cond (eqb number 0) Open (cond (eqb number 1) Closed (ByRole allowed))
 
 -- a line with collection c and constraint k
 abbrev pub lineIn : Tables → Text → ℕ → ℕ → ViewLine
-lineIn T t c k = record { text = t; cover = counted (T .covers) c; access = accessBy (counted (T .marks) k) (counted (T .allows) k) }
+lineIn T t c k = record { text = t; cover = counted (T .covers) c; access = accessBy (counted (T .accesses) k) (counted (T .allows) k) }
 
 -- the lines of those texts, with the numbers of their collections and of their constraints
 unfoldable pub linesIn : Tables → List Text → List ℕ → List ℕ → List ViewLine

@@ -47,11 +47,11 @@ pub fn access_of(s: &[u8], w: &[u32], t: Tally, k: usize) -> Access
     ensures { λ r. ⌜ r ≡ accessAt (viewAt (now (s .entry)) t (now (w .entry))) k ⌝ }
 {
     let c = tables::wide(w[tables::PARENTS + k]);
-    let mark = w[tables::MARKS + c];
-    if mark == 0 {
+    let number = w[tables::ACCESSES + c];
+    if number == 0 {
         return Access::Open;
     }
-    if mark == 1 {
+    if number == 1 {
         return Access::Closed;
     }
     let roles = tables::wide_set(w[tables::ALLOWS + c]);
@@ -74,7 +74,7 @@ pub fn role<'a, 'b>(s: &'a [u8], w: &'b [u32], t: Tally, i: usize) -> &'a [u8]
     tables::text_at(s, w[tables::ROLES + i])
 }
 
-// The place of a name among the roles, or their number where it is none of them.
+// The index of a name among the roles, or their number where it is none of them.
 pub fn role_index(s: &[u8], w: &[u32], t: Tally, name: &[u8]) -> usize
     requires { ⌜ Holds (now s) t (now w) ⌝ }
     ensures { λ r. ⌜ r ≡ indexOf (now (name .entry)) (viewAt (now (s .entry)) t (now (w .entry)) .roles) ⌝ }
@@ -99,7 +99,7 @@ pub fn method<'a, 'b>(s: &'a [u8], w: &'b [u32], t: Tally, i: usize) -> &'a [u8]
     tables::text_at(s, w[tables::METHODS + i])
 }
 
-// The place of a method among them, or their number where it is none of them.
+// The index of a method among them, or their number where it is none of them.
 pub fn method_index(s: &[u8], w: &[u32], t: Tally, name: &[u8]) -> usize
     requires { ⌜ Holds (now s) t (now w) ⌝ }
     ensures { λ r. ⌜ r ≡ indexOf (now (name .entry)) (viewAt (now (s .entry)) t (now (w .entry)) .methods) ⌝ }

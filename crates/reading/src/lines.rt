@@ -1,4 +1,4 @@
-// The line at a place of the listing, cut.
+// The line at an offset of the listing, cut.
 ghost use mathlib.Core.Path.{_≡_};
 ghost use lib.ListN.{getD};
 ghost use lib.Dec.{eqb};
@@ -27,7 +27,7 @@ pub fn ends_at(text: &[u8], e: usize) -> bool
     text[e] == b'\n'
 }
 
-// The line at a place of the text.
+// The line at an offset of the text.
 pub fn cut_at(table: &[u8; 256], text: &[u8], at: usize) -> Cut
     requires { ⌜ Standing (now table) (now text) at ⌝ }
     ensures { λ r. ⌜ r ≡ cutOf (now (text .entry)) at ⌝ }

@@ -30,7 +30,7 @@ use listings::records::Named;
 use text::bytes;
 use text::texts;
 
-// A place in the listing: the next byte, and the number of its line.
+// An offset in the listing: the next byte, and the number of its line.
 pub struct Cursor {
     pub at: usize,
     pub line: u32,
@@ -120,7 +120,7 @@ pub fn line(table: &[u8; 256], s: &[u8], w: &mut [u32], t: Tally, c: Cursor) -> 
     line_named(table, s, w, t, c, cut)
 }
 
-// The lines from a place on, of which the first is line 2.
+// The lines from an offset on, of which the first is line 2.
 pub fn fill_lines(table: &[u8; 256], s: &[u8], w: &mut [u32], at: usize) -> Loaded
     requires { ⌜ (now table ≡ classTable) × ((length (now s) ≤ mostBytes) × ((1 ≤ at) × Ready (now s) at (now w))) ⌝ }
     ensures { λ r. ⌜ FillOutcome (now (s .entry)) (fillFrom startTables 2 (linesOf (drop at (now (s .entry))))) r (now (w .exit)) ⌝ }
@@ -160,7 +160,7 @@ pub fn has_first_line(s: &[u8]) -> bool
     texts::starts_with(b"constraints\t1\n", s)
 }
 
-// The place behind the first line, if that stands at `at` and the text is not too long, and else `at`.
+// The offset behind the first line, if that stands at `at` and the text is not too long, and else `at`.
 pub fn behind_first_line(text: &[u8], at: usize) -> usize
     requires { ⌜ at ≤ length (now text) ⌝ }
     ensures { λ r. ⌜ r ≡ behindFirst (now (text .entry)) at ⌝ }
@@ -196,7 +196,7 @@ pub fn fill_from(text: &[u8], at: usize, w: &mut [u32]) -> Loaded
     fill_lines(&table, text, w, at)
 }
 
-// The reader: the lent text, and its place in it. The borrow checker covers no function over it, so each is thin and leaves the work to one above.
+// The reader: the lent text, and its offset in it. The borrow checker covers no function over it, so each is thin and leaves the work to one above.
 pub struct Reader<'a> {
     pub text: &'a [u8],
     pub at: usize,

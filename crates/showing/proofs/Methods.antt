@@ -61,7 +61,7 @@ module _ (old new : Text) (w : List ℕ) (pair : Pair) (T : Telling old new w pa
       let q : 3072 + (64 + m) ≡ 3136 + m = omega arith in
       e ∙ ap (λ (k : ℕ). getD w k 0) (sym q) ∙ sym (pair-at w (64 + m) (omega (arith, T .methods .few))) ∙ T .methods .news m within
 
-  -- what has no place is none of them
+  -- what has no index is none of them
   unnamed : (ms : List Text) (n : ℕ) → n ≡ indexOf tried ms → length ms ≤ n → List·Memᴰ tried ms → ⊥
   unnamed ms n q l a = never (member tried ms) (member-plain tried ms .1 a) (sym (index-member tried ms) ∙ le-ltb (indexOf tried ms) (length ms) (rw q at l))
 
@@ -70,8 +70,8 @@ module _ (old new : Text) (w : List ℕ) (pair : Pair) (T : Telling old new w pa
     new-named : name ≡ tried
     new-named = let p = in-news i e in q ∙ rw p (index-here tried news (omega arith))
 
-    pub new-place : (r at : ℕ) → r ≡ at + length name → r ≡ at + length tried
-    new-place r at p = p ∙ ap (λ (t : Text). at + length t) new-named
+    pub new-offset : (r at : ℕ) → r ≡ at + length name → r ≡ at + length tried
+    new-offset r at p = p ∙ ap (λ (t : Text). at + length t) new-named
 
     pub new-bytes : (out d : Text) (at : ℕ) → d ≡ sets out at name → d ≡ sets out at tried
     new-bytes out d at p = p ∙ ap (sets out at) new-named
@@ -81,8 +81,8 @@ module _ (old new : Text) (w : List ℕ) (pair : Pair) (T : Telling old new w pa
     old-named : name ≡ tried
     old-named = let p = in-olds j f in q ∙ rw p (index-here tried olds (omega arith))
 
-    pub old-place : (r at : ℕ) → r ≡ at + length name → r ≡ at + length tried
-    old-place r at p = p ∙ ap (λ (t : Text). at + length t) old-named
+    pub old-offset : (r at : ℕ) → r ≡ at + length name → r ≡ at + length tried
+    old-offset r at p = p ∙ ap (λ (t : Text). at + length t) old-named
 
     pub old-bytes : (out d : Text) (at : ℕ) → d ≡ sets out at name → d ≡ sets out at tried
     old-bytes out d at p = p ∙ ap (sets out at) old-named
@@ -99,8 +99,8 @@ module _ (old new : Text) (w : List ℕ) (pair : Pair) (T : Telling old new w pa
         (λ (a : List·Memᴰ tried (fillerMethod (news ++ olds) ∷ [])). sym (List·Memᴰ·eq-of-singleton a))
         (List·Memᴰ·append-cases (joined news olds) (at-listed (methodsOfBoth old new w pair) m within))
 
-    pub filler-place : (r at : ℕ) → r ≡ at + length (81 ∷ digits 5 n) → r ≡ at + length tried
-    filler-place r at p = p ∙ ap (λ (t : Text). at + length t) filler-named
+    pub filler-offset : (r at : ℕ) → r ≡ at + length (81 ∷ digits 5 n) → r ≡ at + length tried
+    filler-offset r at p = p ∙ ap (λ (t : Text). at + length t) filler-named
 
     pub filler-bytes : (out d : Text) (at : ℕ) → d ≡ sets out at (81 ∷ digits 5 n) → d ≡ sets out at tried
     filler-bytes out d at p = p ∙ ap (sets out at) filler-named

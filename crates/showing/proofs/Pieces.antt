@@ -59,23 +59,23 @@ module _ (ts : List Text) (n j k : ℕ) (total : k ≡ length ts) where
     kind-is : kindOf t ≡ kindAt ts j
     kind-is = ap kindOf e ∙ sym (kind-line ts j (omega arith))
 
-    pub stem-place : (r at : ℕ) → r ≡ at + length (stemPath (fillerAt n) (kindOf t)) → r ≡ at + length (stemPath (fillerAt n) (kindAt ts j))
-    stem-place r at p = p ∙ ap (λ (x : PatternKind). at + length (stemPath (fillerAt n) x)) kind-is
+    pub stem-offset : (r at : ℕ) → r ≡ at + length (stemPath (fillerAt n) (kindOf t)) → r ≡ at + length (stemPath (fillerAt n) (kindAt ts j))
+    stem-offset r at p = p ∙ ap (λ (x : PatternKind). at + length (stemPath (fillerAt n) x)) kind-is
 
     pub stem-bytes : (out d : Text) (at : ℕ) → d ≡ sets out at (stemPath (fillerAt n) (kindOf t)) → d ≡ sets out at (stemPath (fillerAt n) (kindAt ts j))
     stem-bytes out d at p = p ∙ ap (λ (x : PatternKind). sets out at (stemPath (fillerAt n) x)) kind-is
 
   module _ (h : k ≤ j) where
-    pub last-place : (r at : ℕ) → r ≡ at + length (below [] (fillerAt n)) → r ≡ at + length (stemPath (fillerAt n) (kindAt ts j))
-    last-place r at p = p ∙ ap (λ (x : PatternKind). at + length (stemPath (fillerAt n) x)) (sym (kind-behind ts j (omega arith)))
+    pub last-offset : (r at : ℕ) → r ≡ at + length (below [] (fillerAt n)) → r ≡ at + length (stemPath (fillerAt n) (kindAt ts j))
+    last-offset r at p = p ∙ ap (λ (x : PatternKind). at + length (stemPath (fillerAt n) x)) (sym (kind-behind ts j (omega arith)))
 
     pub last-bytes : (out d : Text) (at : ℕ) → d ≡ sets out at (below [] (fillerAt n)) → d ≡ sets out at (stemPath (fillerAt n) (kindAt ts j))
     last-bytes out d at p = p ∙ ap (λ (x : PatternKind). sets out at (stemPath (fillerAt n) x)) (sym (kind-behind ts j (omega arith)))
 
 -- ---- the extension behind it
 module _ (ts : List Text) (e : ℕ) where
-  pub no-ending-place : e ≡ 0 → (at : ℕ) → at ≡ at + length (ending ts e)
-  no-ending-place z at = rw z (omega arith)
+  pub no-ending-offset : e ≡ 0 → (at : ℕ) → at ≡ at + length (ending ts e)
+  no-ending-offset z at = rw z (omega arith)
 
   pub no-ending-bytes : e ≡ 0 → (out : Text) (at : ℕ) → out ≡ sets out at (ending ts e)
   no-ending-bytes z out at = rw z
@@ -113,8 +113,8 @@ module _ (ts : List Text) (e : ℕ) where
               let s : Shape t (extension (E .1)) = rw (ap kindOf is′ ∙ E .2) at (shape t) in
               let l = ap length (s .0) in omega arith
 
-      pub ending-place : (r at : ℕ) → r ≡ at + length (part 1 (length t) t) → r ≡ at + length (ending ts e)
-      ending-place r at p = p ∙ ap (λ (x : Text). at + length x) ending-is
+      pub ending-offset : (r at : ℕ) → r ≡ at + length (part 1 (length t) t) → r ≡ at + length (ending ts e)
+      ending-offset r at p = p ∙ ap (λ (x : Text). at + length x) ending-is
 
       pub ending-bytes : (out d : Text) (at : ℕ) → d ≡ sets out at (part 1 (length t) t) → d ≡ sets out at (ending ts e)
       ending-bytes out d at p = p ∙ ap (sets out at) ending-is
@@ -172,8 +172,8 @@ module _ (old new : Text) (w : List ℕ) (pair : Pair) (T : Telling old new w pa
     pub stem-near : a ≤ 2000
     stem-near = omega (arith, stem-short n lines (f .stem) texts-short)
 
-    pub path-place : (r : ℕ) → r ≡ a + length (ending lines (f .ending)) → r ≡ at + length path
-    path-place r p = let z = length-append (stemPath (fillerAt n) (kindAt lines (f .stem))) (ending lines (f .ending)) in omega arith
+    pub path-offset : (r : ℕ) → r ≡ a + length (ending lines (f .ending)) → r ≡ at + length path
+    path-offset r p = let z = length-append (stemPath (fillerAt n) (kindAt lines (f .stem))) (ending lines (f .ending)) in omega arith
 
     pub path-bytes : (out d d′ : Text) → d ≡ sets out at (stemPath (fillerAt n) (kindAt lines (f .stem))) → d′ ≡ sets d a (ending lines (f .ending)) → d′ ≡ sets out at path
     path-bytes out d d′ p q = sets-then out d d′ (stemPath (fillerAt n) (kindAt lines (f .stem))) (ending lines (f .ending)) at a at₁ p q
@@ -188,8 +188,8 @@ module _ (old new : Text) (w : List ℕ) (pair : Pair) (T : Telling old new w pa
       pub head-near : r ≤ 1000
       head-near = omega (arith, path-short)
 
-      pub head-place : r ≡ 0 + length (foundHead (oldView old w pair) (newView new w pair) n f)
-      head-place = omega (arith, length-append (bytes "verdict\twider\npath\t") path, length-append (bytes "verdict\twider\npath\t" ++ path) (bytes "\nmethod\t"))
+      pub head-offset : r ≡ 0 + length (foundHead (oldView old w pair) (newView new w pair) n f)
+      head-offset = omega (arith, length-append (bytes "verdict\twider\npath\t") path, length-append (bytes "verdict\twider\npath\t" ++ path) (bytes "\nmethod\t"))
 
       pub head-bytes : (out o₁ o₂ o₃ : Text) → o₁ ≡ sets out 0 (bytes "verdict\twider\npath\t") → o₂ ≡ sets o₁ a path → o₃ ≡ sets o₂ b (bytes "\nmethod\t")
           → o₃ ≡ sets out 0 (foundHead (oldView old w pair) (newView new w pair) n f)
@@ -220,8 +220,8 @@ module _ (old new : Text) (w : List ℕ) (pair : Pair) (T : Telling old new w pa
       pub caller-near : b ≤ 10000
       caller-near = omega (arith, tried-short)
 
-      pub tail-place : (r : ℕ) → r ≡ b + length line → r ≡ at + length (foundTail (oldView old w pair) (newView new w pair) f)
-      tail-place r p = omega (arith, length-append method (bytes "\n"), length-append (method ++ bytes "\n") line)
+      pub tail-offset : (r : ℕ) → r ≡ b + length line → r ≡ at + length (foundTail (oldView old w pair) (newView new w pair) f)
+      tail-offset r p = omega (arith, length-append method (bytes "\n"), length-append (method ++ bytes "\n") line)
 
       pub tail-bytes : (out o₁ o₂ o₃ : Text) → o₁ ≡ sets out at method → o₂ ≡ sets o₁ a (bytes "\n") → o₃ ≡ sets o₂ b line → o₃ ≡ sets out at (foundTail (oldView old w pair) (newView new w pair) f)
       tail-bytes out o₁ o₂ o₃ p q s =
@@ -271,17 +271,17 @@ role-line ns (suc (suc n)) name h k e = let m : suc (suc n) - 2 ≡ n = omega ar
 
 module _ (ns : List Text) (c : ℕ) (out : Text) (at : ℕ) where
   -- not logged in
-  pub none-place : (r : ℕ) → c ≡ 0 → r ≡ at + 12 → r ≡ at + length (lineOf (callerFields (callerAt ns c)))
+  pub none-offset : (r : ℕ) → c ≡ 0 → r ≡ at + 12 → r ≡ at + length (lineOf (callerFields (callerAt ns c)))
   unfolding lineOf
-  none-place r e p = rw e p
+  none-offset r e p = rw e p
 
   pub none-bytes : (d : Text) → c ≡ 0 → d ≡ sets out at (bytes "caller\tnone\n") → d ≡ sets out at (lineOf (callerFields (callerAt ns c)))
   unfolding lineOf
   none-bytes d e p = rw e p
 
   module _ (S : Showable ns c) (some : c ≡ 0 → ⊥) (name : Text) (named : name ≡ getD ns (c - 2) []) (a b r : ℕ) (at₁ : a ≡ at + 12) (at₂ : b ≡ a + length name) where
-    pub role-place : r ≡ b + 1 → r ≡ at + length (lineOf (callerFields (callerAt ns c)))
-    role-place p =
+    pub role-offset : r ≡ b + 1 → r ≡ at + length (lineOf (callerFields (callerAt ns c)))
+    role-offset p =
         rw (← role-line ns c name some (S .other) named)
         (let l = length-append (bytes "caller\trole\t" ++ name) (bytes "\n") in let k = length-append (bytes "caller\trole\t") name in omega arith)
 
@@ -303,7 +303,7 @@ line-short v c P S = go (decLt 0 c)
         let some : c ≡ 0 → ⊥ = λ e. omega arith in
         let z = ap length (role-line (v .roles) c name some (S .other) refl) in
         omega (arith, length-append (bytes "caller\trole\t" ++ name) (bytes "\n"), length-append (bytes "caller\trole\t") name, role-most v c P S some)
-    go (no h) = let z = none-place (v .roles) c [] 0 12 (omega arith) refl in omega arith
+    go (no h) = let z = none-offset (v .roles) c [] 0 12 (omega arith) refl in omega arith
 
 pub wider-short : (old new : Text) (w : List ℕ) (pair : Pair) → Telling old new w pair → (f : Found) → FoundIn (oldView old w pair) (newView new w pair) f → (n : ℕ)
     → length (answerOf (Opt.some (foundRequest (oldView old w pair) (newView new w pair) n f))) ≤ 1024
@@ -312,7 +312,7 @@ wider-short old new w pair T f F n =
     let nv : View = newView new w pair in
     let line : Text = lineOf (callerFields (callerAt (nv .roles) (f .caller))) in
     let tried : Text = getD (methodsOfBoth old new w pair) (f .method) [] in
-    let h : 27 + length (foundRequest ov nv n f .path) ≡ 0 + length (foundHead ov nv n f) = head-place old new w pair T f F n 19 (19 + length (foundRequest ov nv n f .path)) _ refl refl (omega arith) in
+    let h : 27 + length (foundRequest ov nv n f .path) ≡ 0 + length (foundHead ov nv n f) = head-offset old new w pair T f F n 19 (19 + length (foundRequest ov nv n f .path)) _ refl refl (omega arith) in
     let t = length-append (tried ++ bytes "\n") line in
     let u = length-append tried (bytes "\n") in
     let z = ap length (both-parts ov nv n f) in

@@ -26,8 +26,8 @@ abbrev filler : ℕ → Text
 filler n = numbered (bytes "q") n
 
 module _ (p out d₁ d₂ d₃ : Text) (at n a b r : ℕ) (at₁ : a ≡ at + length p) (at₂ : b ≡ a + 1) where
-  pub below-place : r ≡ b + length (113 ∷ digits 5 n) → r ≡ at + length (below p (filler n))
-  below-place at₃ = omega (arith, length-append p (slash ∷ filler n))
+  pub below-offset : r ≡ b + length (113 ∷ digits 5 n) → r ≡ at + length (below p (filler n))
+  below-offset at₃ = omega (arith, length-append p (slash ∷ filler n))
 
   pub below-bytes : d₁ ≡ sets out at p → d₂ ≡ sets d₁ a (bytes "/") → d₃ ≡ sets d₂ b (113 ∷ digits 5 n) → d₃ ≡ sets out at (below p (filler n))
   below-bytes put₁ put₂ put₃ =
@@ -96,8 +96,8 @@ module _ (f t : Text) where
 -- ---- what is put
 module _ (t out d : Text) (at n r : ℕ) where
   -- the empty text
-  pub empty-place : length t ≡ 0 → r ≡ at + 1 → r ≡ at + length (stemPath (filler n) (kindOf t))
-  empty-place z e = rw (path-empty (filler n) t z) e
+  pub empty-offset : length t ≡ 0 → r ≡ at + 1 → r ≡ at + length (stemPath (filler n) (kindOf t))
+  empty-offset z e = rw (path-empty (filler n) t z) e
 
   pub empty-bytes : length t ≡ 0 → d ≡ sets out at (bytes "/") → d ≡ sets out at (stemPath (filler n) (kindOf t))
   empty-bytes z e = rw (path-empty (filler n) t z) e
@@ -105,8 +105,8 @@ module _ (t out d : Text) (at n r : ℕ) where
   -- `/`
   module _ (y : Bool) (is : y ≡ same t (bytes "/")) where
     module _ (yes : y ≡ true) where
-      pub default-place : r ≡ at + length (below [] (filler n)) → r ≡ at + length (stemPath (filler n) (kindOf t))
-      default-place e = rw (path-default (filler n) t (sym is ∙ yes)) e
+      pub default-offset : r ≡ at + length (below [] (filler n)) → r ≡ at + length (stemPath (filler n) (kindOf t))
+      default-offset e = rw (path-default (filler n) t (sym is ∙ yes)) e
 
       pub default-bytes : d ≡ sets out at (below [] (filler n)) → d ≡ sets out at (stemPath (filler n) (kindOf t))
       default-bytes e = rw (path-default (filler n) t (sym is ∙ yes)) e
@@ -124,8 +124,8 @@ module _ (t out d : Text) (at n r : ℕ) where
         whole : below [] (filler n) ++ dot ∷ split .0 ≡ stemPath (filler n) (kindOf t)
         whole = sym (path-starred (filler n) t (split .0) (split .1) (pattern-permitted t good))
 
-        pub starred-place : r ≡ a + length (part 1 (length t) t) → r ≡ at + length (stemPath (filler n) (kindOf t))
-        starred-place e = rw (← whole, length-append (below [] (filler n)) (dot ∷ split .0)) (let l = ap length behind in omega arith)
+        pub starred-offset : r ≡ a + length (part 1 (length t) t) → r ≡ at + length (stemPath (filler n) (kindOf t))
+        starred-offset e = rw (← whole, length-append (below [] (filler n)) (dot ∷ split .0)) (let l = ap length behind in omega arith)
 
         pub starred-bytes : d₁ ≡ sets out at (below [] (filler n)) → d ≡ sets d₁ a (part 1 (length t) t) → d ≡ sets out at (stemPath (filler n) (kindOf t))
         starred-bytes put₁ put₂ = rw (← whole) (sets-then out d₁ d (below [] (filler n)) (dot ∷ split .0) at a at₁ put₁ (rw behind at put₂))
@@ -136,8 +136,8 @@ module _ (t out d : Text) (at n r : ℕ) where
           pre : stemPath (filler n) (kindOf t) ≡ below (take (length t - 2) t) (filler n)
           pre = path-below (filler n) t (sym (filled-differs t some)) (sym is ∙ no) (sym starred ∙ unstarred) (pattern-permitted t good) (sym ended ∙ yes)
 
-          pub prefix-place : r ≡ at + length (below (take (length t - 2) t) (filler n)) → r ≡ at + length (stemPath (filler n) (kindOf t))
-          prefix-place e = rw pre e
+          pub prefix-offset : r ≡ at + length (below (take (length t - 2) t) (filler n)) → r ≡ at + length (stemPath (filler n) (kindOf t))
+          prefix-offset e = rw pre e
 
           pub prefix-bytes : d ≡ sets out at (below (take (length t - 2) t) (filler n)) → d ≡ sets out at (stemPath (filler n) (kindOf t))
           prefix-bytes e = rw pre e
@@ -147,8 +147,8 @@ module _ (t out d : Text) (at n r : ℕ) where
           itself : stemPath (filler n) (kindOf t) ≡ t
           itself = path-exact (filler n) t (sym (filled-differs t some)) (sym is ∙ no) (sym starred ∙ unstarred) (pattern-permitted t good) (sym ended ∙ unended)
 
-          pub exact-place : r ≡ at + length t → r ≡ at + length (stemPath (filler n) (kindOf t))
-          exact-place e = rw itself e
+          pub exact-offset : r ≡ at + length t → r ≡ at + length (stemPath (filler n) (kindOf t))
+          exact-offset e = rw itself e
 
           pub exact-bytes : d ≡ sets out at t → d ≡ sets out at (stemPath (filler n) (kindOf t))
           exact-bytes e = rw itself e

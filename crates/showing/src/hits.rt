@@ -53,7 +53,7 @@ pub fn line_count(old: &[u8], new: &[u8], w: &[u32], pair: Pair) -> usize
     held::pattern_count(new, &w[1024..2048], tn) + held::pattern_count(old, &w[0..1024], to)
 }
 
-// The path of stem j, where the filler's number is n; the place behind it.
+// The path of stem j, where the filler's number is n; the offset behind it.
 pub fn put_stem<'a, 'b>(
     old: &'a [u8],
     new: &'a [u8],
@@ -65,7 +65,7 @@ pub fn put_stem<'a, 'b>(
     at: usize,
 ) -> usize
     requires { ⌜ Telling (now old) (now new) (now w) pair × (at ≤ 1000) ⌝ }
-    ensures place { λ r. ⌜ r ≡ at + length (stemPath (fillerAt n) (kindAt (linesOfBoth (now (old .entry)) (now (new .entry)) (now (w .entry)) pair) j)) ⌝ }
+    ensures offset { λ r. ⌜ r ≡ at + length (stemPath (fillerAt n) (kindAt (linesOfBoth (now (old .entry)) (now (new .entry)) (now (w .entry)) pair) j)) ⌝ }
     ensures bytes { λ _. ⌜ now (out .exit) ≡ sets (now (out .entry)) at (stemPath (fillerAt n) (kindAt (linesOfBoth (now (old .entry)) (now (new .entry)) (now (w .entry)) pair) j)) ⌝ }
 {
     if j < line_count(old, new, w, pair) {
@@ -85,7 +85,7 @@ pub fn put_ending<'a, 'b>(
     at: usize,
 ) -> usize
     requires { ⌜ Telling (now old) (now new) (now w) pair × (EndingIn (linesOfBoth (now old) (now new) (now w) pair) e × (at ≤ 2000)) ⌝ }
-    ensures place { λ r. ⌜ r ≡ at + length (ending (linesOfBoth (now (old .entry)) (now (new .entry)) (now (w .entry)) pair) e) ⌝ }
+    ensures offset { λ r. ⌜ r ≡ at + length (ending (linesOfBoth (now (old .entry)) (now (new .entry)) (now (w .entry)) pair) e) ⌝ }
     ensures bytes { λ _. ⌜ now (out .exit) ≡ sets (now (out .entry)) at (ending (linesOfBoth (now (old .entry)) (now (new .entry)) (now (w .entry)) pair) e) ⌝ }
 {
     if e == 0 {
@@ -106,7 +106,7 @@ pub fn put_method(
     at: usize,
 ) -> usize
     requires { ⌜ Telling (now old) (now new) (now w) pair × ((m < length (methodsOfBoth (now old) (now new) (now w) pair)) × (at ≤ 10000)) ⌝ }
-    ensures place { λ r. ⌜ r ≡ at + length (getD (methodsOfBoth (now (old .entry)) (now (new .entry)) (now (w .entry)) pair) m []) ⌝ }
+    ensures offset { λ r. ⌜ r ≡ at + length (getD (methodsOfBoth (now (old .entry)) (now (new .entry)) (now (w .entry)) pair) m []) ⌝ }
     ensures bytes { λ _. ⌜ now (out .exit) ≡ sets (now (out .entry)) at (getD (methodsOfBoth (now (old .entry)) (now (new .entry)) (now (w .entry)) pair) m []) ⌝ }
 {
     let to = pair.old;
@@ -126,7 +126,7 @@ pub fn put_method(
 // The line of caller c of new: 0 not logged in, i + 2 with role i.
 pub fn put_caller(new: &[u8], wn: &[u32], tn: Tally, c: usize, out: &mut [u8], at: usize) -> usize
     requires { ⌜ Holds (now new) tn (now wn) × (Showable (viewAt (now new) tn (now wn) .roles) c × (at ≤ 10000)) ⌝ }
-    ensures place { λ r. ⌜ r ≡ at + length (lineOf (callerFields (callerAt (viewAt (now (new .entry)) tn (now (wn .entry)) .roles) c))) ⌝ }
+    ensures offset { λ r. ⌜ r ≡ at + length (lineOf (callerFields (callerAt (viewAt (now (new .entry)) tn (now (wn .entry)) .roles) c))) ⌝ }
     ensures bytes { λ _. ⌜ now (out .exit) ≡ sets (now (out .entry)) at (lineOf (callerFields (callerAt (viewAt (now (new .entry)) tn (now (wn .entry)) .roles) c))) ⌝ }
 {
     if c == 0 {
@@ -137,7 +137,7 @@ pub fn put_caller(new: &[u8], wn: &[u32], tn: Tally, c: usize, out: &mut [u8], a
     writing::put(out, b, b"\n")
 }
 
-// The path of a hit, where the filler's number is n; the place behind it.
+// The path of a hit, where the filler's number is n; the offset behind it.
 pub fn put_path<'a, 'b>(
     old: &'a [u8],
     new: &'a [u8],
@@ -149,7 +149,7 @@ pub fn put_path<'a, 'b>(
     at: usize,
 ) -> usize
     requires { ⌜ Telling (now old) (now new) (now w) pair × (FoundIn (oldView (now old) (now w) pair) (newView (now new) (now w) pair) f × (at ≤ 1000)) ⌝ }
-    ensures place { λ r. ⌜ r ≡ at + length (hitPath (fillerAt n) (linesOfBoth (now (old .entry)) (now (new .entry)) (now (w .entry)) pair) (f .stem) (f .ending)) ⌝ }
+    ensures offset { λ r. ⌜ r ≡ at + length (hitPath (fillerAt n) (linesOfBoth (now (old .entry)) (now (new .entry)) (now (w .entry)) pair) (f .stem) (f .ending)) ⌝ }
     ensures bytes { λ _. ⌜ now (out .exit) ≡ sets (now (out .entry)) at (hitPath (fillerAt n) (linesOfBoth (now (old .entry)) (now (new .entry)) (now (w .entry)) pair) (f .stem) (f .ending)) ⌝ }
 {
     let stem = f.stem;
@@ -158,7 +158,7 @@ pub fn put_path<'a, 'b>(
     put_ending(old, new, w, pair, ending, out, a)
 }
 
-// What the answer that shows a hit has before the method; the place behind it.
+// What the answer that shows a hit has before the method; the offset behind it.
 pub fn put_head<'a, 'b>(
     old: &'a [u8],
     new: &'a [u8],
@@ -169,7 +169,7 @@ pub fn put_head<'a, 'b>(
     out: &mut [u8],
 ) -> usize
     requires { ⌜ Telling (now old) (now new) (now w) pair × FoundIn (oldView (now old) (now w) pair) (newView (now new) (now w) pair) f ⌝ }
-    ensures place { λ r. ⌜ r ≡ 0 + length (foundHead (oldView (now (old .entry)) (now (w .entry)) pair) (newView (now (new .entry)) (now (w .entry)) pair) n f) ⌝ }
+    ensures offset { λ r. ⌜ r ≡ 0 + length (foundHead (oldView (now (old .entry)) (now (w .entry)) pair) (newView (now (new .entry)) (now (w .entry)) pair) n f) ⌝ }
     ensures near { λ r. ⌜ r ≤ 1000 ⌝ }
     ensures bytes { λ _. ⌜ now (out .exit) ≡ sets (now (out .entry)) 0 (foundHead (oldView (now (old .entry)) (now (w .entry)) pair) (newView (now (new .entry)) (now (w .entry)) pair) n f) ⌝ }
 {
@@ -178,7 +178,7 @@ pub fn put_head<'a, 'b>(
     writing::put(out, b, b"\nmethod\t")
 }
 
-// What it has from the method on; the place behind it.
+// What it has from the method on; the offset behind it.
 pub fn put_tail(
     old: &[u8],
     new: &[u8],
@@ -189,7 +189,7 @@ pub fn put_tail(
     at: usize,
 ) -> usize
     requires { ⌜ Telling (now old) (now new) (now w) pair × (FoundIn (oldView (now old) (now w) pair) (newView (now new) (now w) pair) f × (at ≤ 1000)) ⌝ }
-    ensures place { λ r. ⌜ r ≡ at + length (foundTail (oldView (now (old .entry)) (now (w .entry)) pair) (newView (now (new .entry)) (now (w .entry)) pair) f) ⌝ }
+    ensures offset { λ r. ⌜ r ≡ at + length (foundTail (oldView (now (old .entry)) (now (w .entry)) pair) (newView (now (new .entry)) (now (w .entry)) pair) f) ⌝ }
     ensures bytes { λ _. ⌜ now (out .exit) ≡ sets (now (out .entry)) at (foundTail (oldView (now (old .entry)) (now (w .entry)) pair) (newView (now (new .entry)) (now (w .entry)) pair) f) ⌝ }
 {
     let tn = pair.new;

@@ -12,10 +12,10 @@ ghost use Rattle.trials.specs.Trials.{below};
 ghost use Rattle.grants.specs.Scratch.{stemPath};
 use text::texts;
 
-// p, `/` and the filler, whose number is n; the place behind it.
+// p, `/` and the filler, whose number is n; the offset behind it.
 pub fn put_below(out: &mut [u8], at: usize, p: &[u8], n: usize) -> usize
     requires { ⌜ (at ≤ 1000) × (length (now p) ≤ 255) ⌝ }
-    ensures place { λ r. ⌜ r ≡ at + length (below (now (p .entry)) (numbered (bytes "q") n)) ⌝ }
+    ensures offset { λ r. ⌜ r ≡ at + length (below (now (p .entry)) (numbered (bytes "q") n)) ⌝ }
     ensures bytes { λ _. ⌜ now (out .exit) ≡ sets (now (out .entry)) at (below (now (p .entry)) (numbered (bytes "q") n)) ⌝ }
 {
     let a = writing::put(out, at, p);
@@ -23,10 +23,10 @@ pub fn put_below(out: &mut [u8], at: usize, p: &[u8], n: usize) -> usize
     writing::put_numbered(out, b, b'q', n)
 }
 
-// The path of the stem of a pattern text; the place behind it.
+// The path of the stem of a pattern text; the offset behind it.
 pub fn put_stem(out: &mut [u8], at: usize, text: &[u8], n: usize) -> usize
     requires { ⌜ (at ≤ 1000) × (isPattern (now text) ≡ true) ⌝ }
-    ensures place { λ r. ⌜ r ≡ at + length (stemPath (numbered (bytes "q") n) (kindOf (now (text .entry)))) ⌝ }
+    ensures offset { λ r. ⌜ r ≡ at + length (stemPath (numbered (bytes "q") n) (kindOf (now (text .entry)))) ⌝ }
     ensures bytes { λ _. ⌜ now (out .exit) ≡ sets (now (out .entry)) at (stemPath (numbered (bytes "q") n) (kindOf (now (text .entry)))) ⌝ }
 {
     if text.len() == 0 {

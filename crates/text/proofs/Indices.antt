@@ -1,4 +1,4 @@
--- Lists put together, and the places of texts among texts that stand there once each.
+-- Lists put together, and the indices of texts among texts that stand there once each.
 use mathlib.Core.Path.{_≡_, refl, sym, ap, _∙_}
 use mathlib.Core.Bool.{Bool, true, false, cond, _&&_, _||_, or-true}
 use mathlib.Core.List.{List, [], _∷_, _++_, append-assoc}
@@ -31,7 +31,7 @@ pub length-snoc {ℓ} : {A : Type ℓ} (xs : List A) (x : A) → length (xs ++ x
 length-snoc [] x = refl
 length-snoc (y ∷ ys) x = ap suc (length-snoc ys x)
 
--- ---- places
+-- ---- indices
 -- what is found stands among them, and what is not found has their number
 pub index-bound : (t : Text) (us : List Text) → indexOf t us ≤ length us
 unfolding indexOf
@@ -42,7 +42,7 @@ index-bound t (u ∷ us) = go (same u t) (index-bound t us)
     go true h = omega arith
     go false h = omega arith
 
--- a text is one of them where its place is below their number
+-- a text is one of them where its index is below their number
 pub index-member : (t : Text) (us : List Text) → ltb (indexOf t us) (length us) ≡ member t us
 unfolding indexOf member
 index-member t [] = refl
@@ -74,7 +74,7 @@ index-behind t (u ∷ us) vs h = go (same u t) h (index-behind t us vs)
     go true h again = absurd (omega arith)
     go false h again = ap suc (again (omega arith))
 
--- at its place stands the text
+-- at its index stands the text
 pub index-here : (t : Text) (us : List Text) → indexOf t us < length us → getD us (indexOf t us) [] ≡ t
 unfolding indexOf
 index-here t [] h = absurd (omega arith)
@@ -124,7 +124,7 @@ unfolding distinct
 once-distinct ts = once-run [] ts (λ i h. absurd (omega arith))
 
 module _ (us : List Text) (once : Once us) (t : Text) (found : indexOf t us < length us) where
-  -- a text stands at its place alone
+  -- a text stands at its index alone
   pub stands : (i : ℕ) → (ltb i (length us) && same t (getD us i [])) ≡ eqb i (indexOf t us)
   stands i = go (decLt i (length us))
     where

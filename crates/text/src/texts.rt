@@ -187,7 +187,7 @@ pub fn four_text(table: &[u8; 256], t: &[u8]) -> bool
     bytes::is_text(table, t[3])
 }
 
-// A place behind some text bytes of s that stand from `at` on, taken four at a time.
+// An offset behind some text bytes of s that stand from `at` on, taken four at a time.
 pub fn past_text(table: &[u8; 256], s: &[u8], at: usize) -> usize
     requires { ⌜ now table ≡ classTable ⌝ }
     ensures begun { λ r. ⌜ at ≤ r ⌝ }

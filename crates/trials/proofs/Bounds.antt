@@ -22,7 +22,7 @@ use Rattle.text.proofs.Classes.{text-no-newline}
 use Rattle.names.proofs.Plainly.{member-plain, member-append}
 use Rattle.listings.specs.Propers.{Proper}
 use Rattle.decisions.proofs.Droppings.{dropped-none}
-use Rattle.decisions.specs.Requests.{Caller, nobody, Request, isPath, allHeld, callerOf}
+use Rattle.decisions.specs.Requests.{Caller, nobody, Request, isPath, allEndedNames, callerOf}
 use Rattle.trials.specs.Fillers.{firstNumber, fills, filler, isUnnamed, fillerMethod, fillerOf, First, Filler}
 use Rattle.trials.specs.Trials.{joined, trialPaths, methodsTried, trialMethods, one, trialNames, trialCallers}
 use Rattle.trials.specs.Verdicts.{WellFormed}
@@ -98,15 +98,15 @@ module _ (t : Text) (h : isPattern t ≡ true) where
   unfolding isPattern
   pattern-bytes = made-bytes isText 0 255 t (and-left (madeOf isText 0 255 t) _ h)
 
-  marks-and-kind : (not (has semicolon t) && isPermitted (kindOf t)) ≡ true
+  semicolon-and-kind : (not (has semicolon t) && isPermitted (kindOf t)) ≡ true
   unfolding isPattern
-  marks-and-kind = and-right (not (endsWith (bytes " ") t)) _ (and-right (madeOf isText 0 255 t) _ h)
+  semicolon-and-kind = and-right (not (endsWith (bytes " ") t)) _ (and-right (madeOf isText 0 255 t) _ h)
 
-  pattern-unmarked : has semicolon t ≡ false
-  pattern-unmarked = not-true (has semicolon t) (and-left (not (has semicolon t)) (isPermitted (kindOf t)) marks-and-kind)
+  pattern-without : has semicolon t ≡ false
+  pattern-without = not-true (has semicolon t) (and-left (not (has semicolon t)) (isPermitted (kindOf t)) semicolon-and-kind)
 
   pub pattern-permitted : isPermitted (kindOf t) ≡ true
-  pattern-permitted = and-right (not (has semicolon t)) (isPermitted (kindOf t)) marks-and-kind
+  pattern-permitted = and-right (not (has semicolon t)) (isPermitted (kindOf t)) semicolon-and-kind
 
 -- what a role name is made of
 pub role-made : (n : Text) → isRoleName n ≡ true → madeOf isText 1 64 n ≡ true
@@ -143,7 +143,7 @@ one-line (x ∷ xs) h =
 
 -- so one role is a caller's, logged in
 pub one-called : (n : Text) → isRoleName n ≡ true → callerOf 1 (n ++ newline ∷ []) ≡ some (one n)
-unfolding callerOf allHeld
+unfolding callerOf allEndedNames
 one-called n h = rw (one-line n (made-bytes isText 1 64 n (role-made n h)), h)
 
 -- one who is not logged in is a caller, too
@@ -247,19 +247,19 @@ module _ (old new : Listing) (O : Proper old) (N : Proper new) where
       (filler ts) (filler-bytes isText text-q digit-text ts) x F)) r
 
   -- it has no `;`: the patterns have none, and the filler has none
-  pub path-unmarked : (x : Text) → List·Memᴰ x (trialPaths old new) → has semicolon x ≡ false
+  pub path-without : (x : Text) → List·Memᴰ x (trialPaths old new) → has semicolon x ≡ false
   unfolding isOther fillerOf
-  path-unmarked x m =
+  path-without x m =
       let ts : List Text = patternsOf new ++ patternsOf old in
       all-without semicolon x
       (form-bytes (isOther semicolon) refl refl ts
       (each (λ (t : Text). all (isOther semicolon) t ≡ true) (patternsOf new) (patternsOf old)
-      (λ t i. without-all semicolon t (pattern-unmarked t (N .good-patterns t i))) (λ t i. without-all semicolon t (pattern-unmarked t (O .good-patterns t i))))
+      (λ t i. without-all semicolon t (pattern-without t (N .good-patterns t i))) (λ t i. without-all semicolon t (pattern-without t (O .good-patterns t i))))
       (filler ts) (filler-bytes (isOther semicolon) refl (λ d h. ap not (ne-eqb semicolon (48 + d) (λ e. omega arith))) ts) x (form-of x m))
 
   -- so it is decided on as it is
   pub trial-path-kept : TrialPathsKept old new
-  trial-path-kept x m = (path-unmarked x m, dropped-none x (path-unmarked x m))
+  trial-path-kept x m = (path-without x m, dropped-none x (path-without x m))
 
   -- a trial method is a method
   pub method-good : (x : Text) → List·Memᴰ x (trialMethods old new) → isMethodName x ≡ true

@@ -9,7 +9,7 @@
 --   Choices         lists joined, and the first that passes
 --   StandIns        every path has a trial path that the same pattern texts match
 --   Forms           what a trial path looks like
---   Pigeons         more texts than places
+--   Pigeons         more texts than a list has
 --   Decimals        numbers in decimal
 --   FillersExist    the filler and the filler method exist
 --   Alikes          paths that the same patterns match

@@ -72,7 +72,7 @@ first-front {A} test xs ys h = first-append test xs ys ∙ go (first test xs) re
     go none e = h e
     go (some x) e = refl
 
--- ---- names that only old has are never shown: who holds one and is granted anew has one before him who stands in
+-- ---- names that only old has are never shown: who has one and is granted anew has one before him who stands in
 fresh-too : (a b : Access) (c x : Caller) (ns : List Text) → StandsFor a ns c x → isFresh b a c ≡ true → isFresh b a x ≡ true
 unfolding isFresh
 fresh-too a b c x ns S h =

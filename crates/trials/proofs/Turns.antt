@@ -1,4 +1,4 @@
--- The loops turn by turn: the first answer of a list from a place on, and the trial paths, methods and names by the lines of the listings.
+-- The loops turn by turn: the first answer of a list from an index on, and the trial paths, methods and names by the lines of the listings.
 use mathlib.Core.Path.{_≡_, refl, sym, ap, _∙_}
 use mathlib.Core.Bool.{Bool, true, false, cond}
 use mathlib.Core.List.{List, [], _∷_, _++_, map}
@@ -12,7 +12,7 @@ use Rattle.names.specs.Patterns.{kindOf}
 use Rattle.trials.specs.Trials.{below, dotted, extensionIn, extensions, pathsOfKind, pathsFrom, further, joined}
 use Rattle.trials.specs.Loops.{orElse, firstSome}
 
--- ---- the first answer from place i on
+-- ---- the first answer from index i on
 module _ {A B : Type 0} (f : A → Option B) where
   from-suc : (xs : List A) (i : ℕ) (d : A) → i < length xs → firstSome f (drop i xs) ≡ orElse (f (getD xs i d)) (firstSome f (drop (suc i) xs))
   unfolding firstSome

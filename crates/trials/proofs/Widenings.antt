@@ -13,7 +13,7 @@ use Rattle.names.proofs.Plainly.{member-plain}
 use Rattle.listings.proofs.Lines.{flat-in, flat-of}
 use Rattle.decisions.specs.Matching.{best}
 use Rattle.decisions.specs.Paths.{dropped}
-use Rattle.decisions.specs.Requests.{Caller, nobody, holder, Extends, Request, request}
+use Rattle.decisions.specs.Requests.{Caller, nobody, loggedIn, Extends, Request, request}
 use Rattle.decisions.specs.Combining.{Access, closed, free, roles, anyOf, hasRole}
 use Rattle.decisions.specs.Decisions.{combinedAt, combinedFor, answerTo, decide, isGrant, may}
 use Rattle.decisions.proofs.Anys.{any-plain}
@@ -46,7 +46,7 @@ one-may : (f : Text → Bool) (n : Text) → may (roles f) (one n) ≡ f n
 unfolding anyOf
 one-may f n = roles-grant f (n ∷ []) ∙ or-false (f n)
 
--- x stands in for c by an access: one of those that are tried with the names, who may, and c holds all that x does
+-- x stands in for c by an access: one of those that are tried with the names, who may, and c has all the roles that x has
 pub record StandsFor (a : Access) (ns : List Text) (c x : Caller) : Type 0 where
   pub listed : List·Memᴰ x (callersWith ns)
   pub may-too : may a x ≡ true
@@ -58,7 +58,7 @@ unfolding answerTo
 caller-for closed ns known c h = absurd (never false h refl)
 caller-for free ns known c h = (nobody, record { listed = List·Memᴰ·head refl; may-too = refl; below = tt })
 caller-for (roles f) ns known nobody h = absurd (never false h refl)
-caller-for (roles f) ns known (holder ms) h =
+caller-for (roles f) ns known (loggedIn ms) h =
     let r = any-plain f ms .0 (sym (roles-grant f ms) ∙ h) in (
       one (r .0),
       record {

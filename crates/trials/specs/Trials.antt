@@ -4,7 +4,7 @@ use mathlib.Core.List.{List, [], _∷_, _++_, map, flatMap}
 use Rattle.text.specs.Texts.{Text, slash, dot, member}
 use Rattle.names.specs.Patterns.{PatternKind, exact, prefix, extension, default, unpermitted, kindOf}
 use Rattle.listings.specs.Listings.{Listing, patternsOf}
-use Rattle.decisions.specs.Requests.{Caller, nobody, holder, Request, request}
+use Rattle.decisions.specs.Requests.{Caller, nobody, loggedIn, Request, request}
 use Rattle.trials.specs.Fillers.{fillerMethod, fillerOf}
 
 -- ---- "Trial paths, taking the `pattern` lines of the new listing and then the old in order"
@@ -77,7 +77,7 @@ trialMethods old new = methodsTried (old .methods) (new .methods)
 
 -- ---- "Trial callers: not logged in; then logged in with one role, over names by first appearance in new .., then further ones of old."
 abbrev pub one : Text → Caller
-one n = holder (n ∷ [])
+one n = loggedIn (n ∷ [])
 
 unfoldable pub trialNames : Listing → Listing → List Text
 unfolding joined

@@ -1,4 +1,4 @@
--- The first answer of places gone through one by one; and that of a list of texts where a text that stands before is passed over.
+-- The first answer of indices gone through one by one; and that of a list of texts where a text that stands before is passed over.
 use mathlib.Core.Path.{_≡_, refl, sym, ap, ap₂, _∙_}
 use mathlib.Core.Bool.{Bool, true, false, cond, _||_}
 use mathlib.Core.List.{List, [], _∷_}
@@ -15,29 +15,29 @@ use Rattle.names.proofs.Plainly.{member-append}
 use Rattle.trials.specs.Loops.{orElse, firstSome}
 use Rattle.trials.proofs.Turns.{turn-found, turn-on, turn-ends}
 
--- ---- the first answer of the places from j on; k places are left
+-- ---- the first answer of the indices from j on; k indices are left
 pub firstFrom : {B : Type 0} → (ℕ → Option B) → ℕ → ℕ → Option B
 firstFrom h zero j = none
 firstFrom h (suc k) j = orElse (h j) (firstFrom h k (j + 1))
 
 module _ {B : Type 0} where
-  -- of no place
+  -- of no index
   pub from-none : (h : ℕ → Option B) (j : ℕ) → firstFrom h 0 j ≡ none
   unfolding firstFrom
   from-none h j = refl
 
-  -- of one place more
+  -- of one index more
   pub from-more : (h : ℕ → Option B) (k j : ℕ) → firstFrom h (suc k) j ≡ orElse (h j) (firstFrom h k (j + 1))
   unfolding firstFrom
   from-more h k j = refl
 
-  -- places with the same answers
+  -- indices with the same answers
   pub from-alike : (h g : ℕ → Option B) (k j : ℕ) → ((i : ℕ) → i < j + k → h i ≡ g i) → firstFrom h k j ≡ firstFrom g k j
   unfolding firstFrom
   from-alike h g zero j e = refl
   from-alike h g (suc k) j e = ap₂ orElse (e j (omega arith)) (from-alike h g k (j + 1) (λ i l. e i (omega arith)))
 
-  -- the last place by itself
+  -- the last index by itself
   pub from-last : (h : ℕ → Option B) (k j : ℕ) → firstFrom h (suc k) j ≡ orElse (firstFrom h k j) (h (j + k))
   unfolding firstFrom
   from-last h zero j = let z : j + 0 ≡ j = omega arith in rw z (go (h j))

@@ -14,24 +14,24 @@ use Rattle.grants.specs.Scratch.{oldSide, newSide, pairsIn, inOld, inNew, sortA
 use Rattle.grants.specs.declared.scratch.Counts.{Counts}
 use Rattle.grants.specs.declared.judging.Caught.{Caught}
 use Rattle.grants.specs.declared.judging.Caught.the-variants as C
-use Rattle.grants.proofs.Granting.{row-small}
-use Rattle.walks.specs.Gathers.{oldRow, newRow, RowWithin, Gathered, AtStem, caughtTogether}
+use Rattle.grants.proofs.Granting.{roster-small}
+use Rattle.walks.specs.Gathers.{oldRoster, newRoster, RosterWithin, Gathered, AtStem, caughtTogether}
 use Rattle.walks.specs.Walks.{caughtAt, caughtBehind, behindFrom, behind}
 use Rattle.walks.specs.declared.walking.Hit.the-variants as H
 use Rattle.walks.proofs.Withins.{within-self, nothing-within}
 
 -- who is caught is not nobody
 caught-some : {A : Type 0} (m d : ℕ) → C.At m d ≡ C.Nothing → A
-caught-some m d e = absurd (let z : _≡_ {A = ℕ} 1 0 = ap mark e in omega arith)
+caught-some m d e = absurd (let z : _≡_ {A = ℕ} 1 0 = ap number e in omega arith)
   where
-    mark : Caught → ℕ
-    mark C.Nothing = 0
-    mark (C.At m d) = 1
+    number : Caught → ℕ
+    number C.Nothing = 0
+    number (C.At m d) = 1
 
--- ---- rows within rows
+-- ---- rosters within rosters
 module _ (s r o n pairs : List ℕ) (count : ℕ) (fit : PairsFit pairs count)
     (small : (m : ℕ) → m < 32 → getD s m 0 ≤ everyone) (small′ : (m : ℕ) → m < 32 → getD r m 0 ≤ everyone)
-    (outer : RowWithin o s) (inner : RowWithin r n) where
+    (outer : RosterWithin o s) (inner : RosterWithin r n) where
   -- no method has a fresh caller
   fresh-none : (i : ℕ) → i < count → freshIn o n pairs i ≡ 0 → freshIn s r pairs i ≡ 0
   fresh-none i h e =
@@ -53,21 +53,21 @@ module _ (s r o n pairs : List ℕ) (count : ℕ) (fit : PairsFit pairs count)
       go false t e ih = caught-some i (trailingZeros 64 (freshIn o n pairs i)) e
 
 module _ (x : List ℕ) (c : Counts) (j : ℕ) (ro rn each any : List ℕ) (W : Walkable x c) (S : AtStem x c j ro rn) (G : Gathered x c each any) where
-  -- with an extension behind the stem, new's row lies within that of all extensions, and old's has what theirs have
+  -- with an extension behind the stem, new's roster lies within that of all extensions, and old's has what theirs have
   new-within : (i : ℕ) → i < c .old + c .new → sortAt x i ≡ 3
-      → RowWithin (newRow x c (staying (inNew x j) (inNew x i))) (cond (isFirmIn (inNew x j)) rn any)
+      → RosterWithin (newRoster x c (staying (inNew x j) (inNew x i))) (cond (isFirmIn (inNew x j)) rn any)
   new-within i h s = go (isFirmIn (inNew x j))
     where
-      go : (b : Bool) → RowWithin (newRow x c (cond b (inNew x j) (inNew x i))) (cond b rn any)
-      go true = subst (RowWithin (newRow x c (inNew x j))) (sym (S .new-row)) (λ m l. within-self (getD (newRow x c (inNew x j)) m 0))
+      go : (b : Bool) → RosterWithin (newRoster x c (cond b (inNew x j) (inNew x i))) (cond b rn any)
+      go true = subst (RosterWithin (newRoster x c (inNew x j))) (sym (S .new-roster)) (λ m l. within-self (getD (newRoster x c (inNew x j)) m 0))
       go false = G .has-new .all i h s
 
   old-within : (i : ℕ) → i < c .old + c .new → sortAt x i ≡ 3
-      → RowWithin (cond (isFirmIn (inOld x j)) ro each) (oldRow x c (staying (inOld x j) (inOld x i)))
+      → RosterWithin (cond (isFirmIn (inOld x j)) ro each) (oldRoster x c (staying (inOld x j) (inOld x i)))
   old-within i h s = go (isFirmIn (inOld x j))
     where
-      go : (b : Bool) → RowWithin (cond b ro each) (oldRow x c (cond b (inOld x j) (inOld x i)))
-      go true = subst (λ (r : List ℕ). RowWithin r (oldRow x c (inOld x j))) (sym (S .old-row)) (λ m l. within-self (getD (oldRow x c (inOld x j)) m 0))
+      go : (b : Bool) → RosterWithin (cond b ro each) (oldRoster x c (cond b (inOld x j) (inOld x i)))
+      go true = subst (λ (r : List ℕ). RosterWithin r (oldRoster x c (inOld x j))) (sym (S .old-roster)) (λ m l. within-self (getD (oldRoster x c (inOld x j)) m 0))
       go false = G .in-old .all i h s
 
   module _ (e : caughtTogether x c j ro rn each any ≡ C.Nothing) where
@@ -75,9 +75,9 @@ module _ (x : List ℕ) (c : Counts) (j : ℕ) (ro rn each any : List ℕ) (W : 
     behind-caught : (i : ℕ) → i < c .old + c .new → sortAt x i ≡ 3 → caughtBehind x c j i ≡ C.Nothing
     unfolding caughtAt caughtIn caughtTogether
     behind-caught i h s =
-        caught-none (oldRow x c (staying (inOld x j) (inOld x i))) (newRow x c (staying (inNew x j) (inNew x i)))
+        caught-none (oldRoster x c (staying (inOld x j) (inOld x i))) (newRoster x c (staying (inNew x j) (inNew x i)))
         (cond (isFirmIn (inOld x j)) ro each) (cond (isFirmIn (inNew x j)) rn any) (pairsIn x) (c .methods) (W .fits)
-        (row-small (oldSide x) (c .old) (lineIn (staying (inOld x j) (inOld x i)))) (row-small (newSide x) (c .new) (lineIn (staying (inNew x j) (inNew x i))))
+        (roster-small (oldSide x) (c .old) (lineIn (staying (inOld x j) (inOld x i)))) (roster-small (newSide x) (c .new) (lineIn (staying (inNew x j) (inNew x i))))
         (old-within i h s) (new-within i h s) (c .methods) 0 (omega arith) e
 
     -- so none shows

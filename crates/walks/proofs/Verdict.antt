@@ -28,20 +28,20 @@ use Rattle.trials.specs.Verdicts.{verdict}
 use Rattle.trials.proofs.Bounds.{pattern-permitted, filler-of-fills}
 use Rattle.trials.proofs.Loops.{verdict-shown}
 use Rattle.trials.proofs.Turns.{some-none, some-one, paths-by-lines, paths-below, extensions-by-lines}
-use Rattle.grants.specs.Sides.{callerAt, placeIn, placeOf, Ready}
+use Rattle.grants.specs.Sides.{callerAt, lineNumber, bestIn, Ready}
 use Rattle.grants.specs.Catches.{shownOn, caughtIn, caughtOn}
-use Rattle.grants.specs.Scratch.{oldSide, newSide, pairsIn, inOld, inNew, sortAt, placed, lineIn, staying, sortOf, sorted, stemPlace, stemPath, textsOf, StemIn, Numbered}
+use Rattle.grants.specs.Scratch.{oldSide, newSide, pairsIn, inOld, inNew, sortAt, bestNumber, lineIn, staying, sortOf, sorted, stemBest, stemPath, textsOf, StemIn, Numbered}
 use Rattle.grants.specs.declared.scratch.Counts.{Counts}
 use Rattle.grants.specs.declared.judging.Caught.{Caught}
 use Rattle.grants.specs.declared.judging.Caught.the-variants as C
 use Rattle.grants.proofs.Grants.{caught-at}
-use Rattle.grants.proofs.Stems.{line-placed, prefix-rooted, extension-plain, stem-placed, last-placed, behind-placed}
+use Rattle.grants.proofs.Stems.{line-of-best, prefix-rooted, extension-plain, stem-best, last-best, behind-best}
 use Rattle.walks.specs.Walks.{caughtAt, caughtBehind, behindFrom, behind, stemHit, walkFrom, walked, kindAt, hitPath, hitShown}
 use Rattle.walks.specs.declared.walking.Hit.{Hit}
 use Rattle.walks.specs.declared.walking.Hit.the-variants as H
 use Rattle.walks.proofs.Firsts.{firstFrom, from-none, from-more, from-alike, from-last, anew, anew-again, anew-here, anew-first}
 
--- ---- the walk as the first answer of places, whatever the numbers are
+-- ---- the walk as the first answer of indices, whatever the numbers are
 module _ (old new : View) (x : List ℕ) (c : Counts) where
   -- who is caught on a path, as a hit there
   abbrev hitAt : ℕ → ℕ → Caught → Hit
@@ -174,17 +174,17 @@ module _ (old new : Listing) (O : Proper old) (N : Proper new) (x : List ℕ) (c
   hit-shown j e path q C.Nothing = refl
   hit-shown j e path q (C.At m d) = ap (λ (v : Text). some (request v (getD (methodsTried (old .methods) (new .methods)) m []) (callerAt (new .roles) d))) q
 
-  caught-shown : (path : Text) (u v : ℕ) → u ≡ placed (leading (texts ov) path) → v ≡ placed (leading (texts nv) path) → caughtOn old new path (caughtAt x c u v) ≡ shownOn old new path
-  unfolding caughtAt placeOf
+  caught-shown : (path : Text) (u v : ℕ) → u ≡ bestNumber (leading (texts ov) path) → v ≡ bestNumber (leading (texts nv) path) → caughtOn old new path (caughtAt x c u v) ≡ shownOn old new path
+  unfolding caughtAt bestIn
   caught-shown path u v p q =
       ap (caughtOn old new path) (ap₂ (λ (o n : ℕ). caughtIn (oldSide x) o (newSide x) n (pairsIn x) (c .methods) (lineIn u) (lineIn v)) (Z .olds ∙ ap length (texts-of old)) (Z .news ∙ ap length (texts-of new)))
       ∙ caught-at old new O N (oldSide x) (newSide x) (pairsIn x) (c .methods) ready path (lineIn u) (lineIn v)
-      (ap lineIn p ∙ line-placed (leading (texts ov) path) ∙ ap (λ (us : List Text). placeIn (leading us path)) (texts-of old))
-      (ap lineIn q ∙ line-placed (leading (texts nv) path) ∙ ap (λ (us : List Text). placeIn (leading us path)) (texts-of new))
+      (ap lineIn p ∙ line-of-best (leading (texts ov) path) ∙ ap (λ (us : List Text). lineNumber (leading us path)) (texts-of old))
+      (ap lineIn q ∙ line-of-best (leading (texts nv) path) ∙ ap (λ (us : List Text). lineNumber (leading us path)) (texts-of new))
 
   -- that of stem j, of kind k
   stem-caught : (j : ℕ) (k : PatternKind) → kindAt ts j ≡ k → StemIn ov nv x j k
-      → stemPlace (texts ov) k ≡ placed (leading (texts ov) (stemPath filler k)) → stemPlace (texts nv) k ≡ placed (leading (texts nv) (stemPath filler k))
+      → stemBest (texts ov) k ≡ bestNumber (leading (texts ov) (stemPath filler k)) → stemBest (texts nv) k ≡ bestNumber (leading (texts nv) (stemPath filler k))
       → hitShown ov nv (hitAt ov nv x c j 0 (caughtAt x c (inOld x j) (inNew x j))) ≡ shownOn old new (stemPath filler k)
   stem-caught j k e S p q =
       hit-shown j 0 (stemPath filler k) (append-nil (stemPath filler (kindAt ts j)) ∙ ap (stemPath filler) e) (caughtAt x c (inOld x j) (inNew x j))
@@ -205,8 +205,8 @@ module _ (old new : Listing) (O : Proper old) (N : Proper new) (x : List ℕ) (c
         let plain = extension-plain (getD ts i []) e k in
         hit-shown j (i + 1) (dotted p filler e) (behind-path i e (kind-here i h ∙ k)) (caughtBehind x c j i)
         ∙ caught-shown (dotted p filler e) (staying (inOld x j) (inOld x i)) (staying (inNew x j) (inNew x i))
-        (ap₂ staying (S .in-old) (T .in-old) ∙ behind-placed filler (texts ov) fills-old p e root (plain .0) (plain .1))
-        (ap₂ staying (S .in-new) (T .in-new) ∙ behind-placed filler (texts nv) fills-new p e root (plain .0) (plain .1))
+        (ap₂ staying (S .in-old) (T .in-old) ∙ behind-best filler (texts ov) fills-old p e root (plain .0) (plain .1))
+        (ap₂ staying (S .in-new) (T .in-new) ∙ behind-best filler (texts nv) fills-new p e root (plain .0) (plain .1))
 
     no-extension : (i : ℕ) → eqb (sortAt x i) 3 ≡ false → hitShown ov nv (behindHit ov nv x c j i) ≡ none
     no-extension i e = rw e
@@ -249,7 +249,7 @@ module _ (old new : Listing) (O : Proper old) (N : Proper new) (x : List ℕ) (c
   stem-shown j h = go (member (getD ts j []) (take j ts)) refl
     where
       kinds : (k : PatternKind) → kindOf (getD ts j []) ≡ k → sortAt x j ≡ sortOf k → StemIn ov nv x j k
-          → stemPlace (texts ov) k ≡ placed (leading (texts ov) (stemPath filler k)) → stemPlace (texts nv) k ≡ placed (leading (texts nv) (stemPath filler k))
+          → stemBest (texts ov) k ≡ bestNumber (leading (texts ov) (stemPath filler k)) → stemBest (texts nv) k ≡ bestNumber (leading (texts nv) (stemPath filler k))
           → isPermitted k ≡ true → hitShown ov nv (stemHit x c j) ≡ firstSome (shownOn old new) (pathsOfKind filler es k)
       kinds (exact q) k s S a b l =
           sort-one ov nv x c j (ap (λ (v : ℕ). eqb v 0) s) (ap (λ (v : ℕ). eqb v 2) s) ∙ stem-caught j (exact q) (kind-here j h ∙ k) S a b ∙ sym (some-one (shownOn old new) q)
@@ -268,14 +268,14 @@ module _ (old new : Listing) (O : Proper old) (N : Proper new) (x : List ℕ) (c
       go : (b : Bool) → member (getD ts j []) (take j ts) ≡ b → hitShown ov nv (stemHit x c j) ≡ anew lineShown ts j
       go true m = sort-none ov nv x c j (sort-again j h m) ∙ sym (anew-again lineShown ts j m)
       go false m =
-          kinds (kindOf (getD ts j [])) refl (sort-here j h m) (Z .stems j h m) (stem-placed filler (texts ov) fills-old (getD ts j []) (permitted j h))
-          (stem-placed filler (texts nv) fills-new (getD ts j []) (permitted j h)) (permitted j h)
+          kinds (kindOf (getD ts j [])) refl (sort-here j h m) (Z .stems j h m) (stem-best filler (texts ov) fills-old (getD ts j []) (permitted j h))
+          (stem-best filler (texts nv) fills-new (getD ts j []) (permitted j h)) (permitted j h)
           ∙ sym (anew-here lineShown ts j m)
 
   last-shown : hitShown ov nv (stemHit x c (length ts)) ≡ shownOn old new (below [] filler)
   last-shown =
       sort-one ov nv x c (length ts) (ap (λ (v : ℕ). eqb v 0) (Z .last-sort)) (ap (λ (v : ℕ). eqb v 2) (Z .last-sort))
-      ∙ stem-caught (length ts) default kind-last (Z .last-stem) (last-placed filler (texts ov) fills-old) (last-placed filler (texts nv) fills-new)
+      ∙ stem-caught (length ts) default kind-last (Z .last-stem) (last-best filler (texts ov) fills-old) (last-best filler (texts nv) fills-new)
 
   -- ---- all trial paths
   paths-listed : trialPaths old new ≡ pathsFor filler ts

@@ -6,14 +6,14 @@ use Prim.Native.Nat.{ℕ, suc, _+_, _-_, _/_, _≤_, _<_}
 use native.Mathlib.Omega.{arith}
 use lib.ListN.{length}
 use lib.Dec.{eqb}
-use Rattle.grants.specs.Sides.{rowIn}
+use Rattle.grants.specs.Sides.{rosterIn}
 use Rattle.grants.specs.Catches.{caughtFrom, caughtIn}
 use Rattle.grants.specs.Scratch.{oldSide, newSide, pairsIn, inOld, inNew, sortAt, lineIn, isFirmIn, staying, Walkable}
 use Rattle.grants.specs.declared.scratch.Counts.{Counts}
 use Rattle.grants.specs.declared.judging.Caught.{Caught}
 use Rattle.grants.specs.declared.judging.Caught.the-variants as C
-use Rattle.grants.proofs.Granting.{row-size}
-use Rattle.walks.specs.Gathers.{oldRow, newRow, Gathered, AtStem, caughtTogether}
+use Rattle.grants.proofs.Granting.{roster-size}
+use Rattle.walks.specs.Gathers.{oldRoster, newRoster, Gathered, AtStem, caughtTogether}
 use Rattle.walks.specs.Walks.{caughtAt, caughtBehind, behindFrom, behind, stemHit, walkFrom, walked}
 use Rattle.walks.specs.declared.walking.Hit.{Hit}
 use Rattle.walks.specs.declared.walking.Hit.the-variants as H
@@ -83,23 +83,23 @@ module _ (x : List ℕ) (c : Counts) (j : ℕ) where
         sym (G .due ∙ ap (λ (k : ℕ). behindFrom x c j k i) k)
 
 -- ---- all of them together
--- a row of a stem, or of all
-pub picked-size : (b : Bool) (own all row : List ℕ) → length own ≡ 32 → length all ≡ 32 → row ≡ cond b own all → length row ≡ 32
-picked-size b own all row p q e = ap length e ∙ go b
+-- a roster of a stem, or of all
+pub picked-size : (b : Bool) (own all roster : List ℕ) → length own ≡ 32 → length all ≡ 32 → roster ≡ cond b own all → length roster ≡ 32
+picked-size b own all roster p q e = ap length e ∙ go b
   where
     go : (b : Bool) → length (cond b own all) ≡ 32
     go true = p
     go false = q
 
 module _ (x : List ℕ) (c : Counts) (j : ℕ) (ro rn : List ℕ) (S : AtStem x c j ro rn) where
-  -- the rows of a stem have a set for each method
+  -- the rosters of a stem have a set for each method
   pub stem-old-size : length ro ≡ 32
-  stem-old-size = row-size (oldSide x) (c .old) (lineIn (inOld x j)) ro (S .old-row)
+  stem-old-size = roster-size (oldSide x) (c .old) (lineIn (inOld x j)) ro (S .old-roster)
 
   pub stem-new-size : length rn ≡ 32
-  stem-new-size = row-size (newSide x) (c .new) (lineIn (inNew x j)) rn (S .new-row)
+  stem-new-size = roster-size (newSide x) (c .new) (lineIn (inNew x j)) rn (S .new-roster)
 
--- the rows that were picked are judged
+-- the rosters that were picked are judged
 pub together-judged : (x : List ℕ) (c : Counts) (j u v : ℕ) (ro rn each any o n : List ℕ) (f g : Bool) (r : Caught) → u ≡ inOld x j → f ≡ isFirmIn u → o ≡ cond f ro each
     → v ≡ inNew x j → g ≡ isFirmIn v → n ≡ cond g rn any → r ≡ caughtFrom o n (pairsIn x) (c .methods) 0 → r ≡ caughtTogether x c j ro rn each any
 unfolding caughtTogether
@@ -114,7 +114,7 @@ module _ (x : List ℕ) (c : Counts) (j : ℕ) (ro rn : List ℕ) (S : AtStem x 
   -- who is caught on its path
   stem-caught : caughtAt x c (inOld x j) (inNew x j) ≡ r
   unfolding caughtAt caughtIn
-  stem-caught = sym (judged ∙ ap₂ (λ (y z : List ℕ). caughtFrom y z (pairsIn x) (c .methods) 0) (S .old-row) (S .new-row))
+  stem-caught = sym (judged ∙ ap₂ (λ (y z : List ℕ). caughtFrom y z (pairsIn x) (c .methods) 0) (S .old-roster) (S .new-roster))
 
   -- its path shows
   pub stem-found : (m d : ℕ) → r ≡ C.At m d → H.At j 0 m d ≡ stemHit x c j
@@ -138,20 +138,20 @@ module _ (x : List ℕ) (c : Counts) (j : ℕ) (ro rn : List ℕ) (S : AtStem x 
       stem-nothing each any s W G e f = stem-behind H.Nothing (sym (together-none x c j ro rn each any W S G (sym e ∙ f)))
 
 -- ---- stem after stem
--- those from j on are still to be tried; the rows are those of the line lo of old and of the line ln of new
+-- those from j on are still to be tried; the rosters are those of the line lo of old and of the line ln of new
 pub record Ahead (x : List ℕ) (c : Counts) (ro rn : List ℕ) (lo ln j : ℕ) : Type 0 where
   pub within : j ≤ c .old + c .new + 1
   pub due : walked x c ≡ walkFrom x c ((c .old + c .new + 1) - j) j
-  pub old-row : ro ≡ rowIn (oldSide x) (c .old) lo
-  pub new-row : rn ≡ rowIn (newSide x) (c .new) ln
+  pub old-roster : ro ≡ rosterIn (oldSide x) (c .old) lo
+  pub new-roster : rn ≡ rosterIn (newSide x) (c .new) ln
 
 module _ (x : List ℕ) (c : Counts) (ro rn : List ℕ) where
   -- all of them
-  pub ahead-start : ro ≡ rowIn (oldSide x) (c .old) 0 → rn ≡ rowIn (newSide x) (c .new) 0 → Ahead x c ro rn 0 0 0
+  pub ahead-start : ro ≡ rosterIn (oldSide x) (c .old) 0 → rn ≡ rosterIn (newSide x) (c .new) 0 → Ahead x c ro rn 0 0 0
   unfolding walked
   ahead-start p q =
       let k : c .old + c .new + 1 ≡ (c .old + c .new + 1) - 0 = omega arith in
-      record { within = omega arith; due = ap (λ (k : ℕ). walkFrom x c k 0) k; old-row = p; new-row = q }
+      record { within = omega arith; due = ap (λ (k : ℕ). walkFrom x c k 0) k; old-roster = p; new-roster = q }
 
   module _ (lo ln j : ℕ) (A : Ahead x c ro rn lo ln j) where
     -- one stem more
@@ -168,7 +168,7 @@ module _ (x : List ℕ) (c : Counts) (ro rn : List ℕ) where
       unfolding stemHit
       ahead-past b p q =
           let nothing : H.Nothing ≡ stemHit x c j = rw (sym p ∙ q) in
-          record { within = omega arith; due = ahead-step H.Nothing (omega arith) nothing; old-row = A .old-row; new-row = A .new-row }
+          record { within = omega arith; due = ahead-step H.Nothing (omega arith) nothing; old-roster = A .old-roster; new-roster = A .new-roster }
 
       module _ (h : Hit) (e : h ≡ stemHit x c j) where
         -- it shows
@@ -177,13 +177,13 @@ module _ (x : List ℕ) (c : Counts) (ro rn : List ℕ) where
 
         -- it does not
         pub ahead-on : (u v : ℕ) (ro′ rn′ : List ℕ) → h ≡ H.Nothing → u ≡ lineIn (inOld x j) → v ≡ lineIn (inNew x j)
-            → ro′ ≡ oldRow x c (inOld x j) → rn′ ≡ newRow x c (inNew x j) → Ahead x c ro′ rn′ u v (j + 1)
+            → ro′ ≡ oldRoster x c (inOld x j) → rn′ ≡ newRoster x c (inNew x j) → Ahead x c ro′ rn′ u v (j + 1)
         ahead-on u v ro′ rn′ f p q p′ q′ =
             record {
               within = omega arith;
               due = ahead-step h (omega arith) e ∙ rw f;
-              old-row = p′ ∙ ap (rowIn (oldSide x) (c .old)) (sym p);
-              new-row = q′ ∙ ap (rowIn (newSide x) (c .new)) (sym q);
+              old-roster = p′ ∙ ap (rosterIn (oldSide x) (c .old)) (sym p);
+              new-roster = q′ ∙ ap (rosterIn (newSide x) (c .new)) (sym q);
             }
 
     -- none is left
@@ -193,9 +193,9 @@ module _ (x : List ℕ) (c : Counts) (ro rn : List ℕ) where
         let k : (c .old + c .new + 1) - j ≡ 0 = omega arith in
         sym (A .due ∙ ap (λ (k : ℕ). walkFrom x c k j) k)
 
--- the rows of stem j
-pub at-stem : (x : List ℕ) (c : Counts) (j : ℕ) (ro rn : List ℕ) → j ≤ 256 → ro ≡ oldRow x c (inOld x j) → rn ≡ newRow x c (inNew x j) → AtStem x c j ro rn
-at-stem x c j ro rn l p q = record { place = l; old-row = p; new-row = q }
+-- the rosters of stem j
+pub at-stem : (x : List ℕ) (c : Counts) (j : ℕ) (ro rn : List ℕ) → j ≤ 256 → ro ≡ oldRoster x c (inOld x j) → rn ≡ newRoster x c (inNew x j) → AtStem x c j ro rn
+at-stem x c j ro rn l p q = record { within = l; old-roster = p; new-roster = q }
 
 -- its sort is another
 pub of-other-sort : (x : List ℕ) (j : ℕ) (b : Bool) → b ≡ eqb (sortAt x j) 0 → b ≡ false → eqb (sortAt x j) 0 ≡ false

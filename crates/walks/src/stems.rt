@@ -1,13 +1,13 @@
-// The numbers of a stem, and its rows.
+// The numbers of a stem, and its rosters.
 ghost use mathlib.Core.Path.{_≡_};
 ghost use Prim.Native.Nat.{_≤_};
 ghost use lib.Dec.{eqb};
 ghost use lib.ListN.{length};
-ghost use Rattle.grants.specs.Sides.{rowIn};
+ghost use Rattle.grants.specs.Sides.{rosterIn};
 ghost use Rattle.grants.specs.Scratch.{oldSide, newSide, inOld, inNew, sortAt, lineIn, isFirmIn, staying, Walkable};
-ghost use Rattle.walks.specs.Gathers.{oldRow, newRow};
+ghost use Rattle.walks.specs.Gathers.{oldRoster, newRoster};
 use entries::tables;
-use grants::rows;
+use grants::rosters;
 use grants::scratch;
 use grants::scratch::Counts;
 
@@ -52,36 +52,36 @@ pub fn line_behind(v: usize, u: usize) -> usize
     u / 2
 }
 
-// From old's row of the line `had` to that of stem j; the number of its line.
-pub fn refresh_old(x: &[u32], c: Counts, had: usize, j: usize, row: &mut [u64]) -> usize
-    requires { ⌜ (Walkable (now x) c × (j ≤ 256)) × (now row ≡ rowIn (oldSide (now x)) (c .old) had) ⌝ }
-    ensures row { λ _. ⌜ now (row .exit) ≡ oldRow (now (x .entry)) c (inOld (now (x .entry)) j) ⌝ }
+// From old's roster of the line `had` to that of stem j; the number of its line.
+pub fn refresh_old(x: &[u32], c: Counts, had: usize, j: usize, roster: &mut [u64]) -> usize
+    requires { ⌜ (Walkable (now x) c × (j ≤ 256)) × (now roster ≡ rosterIn (oldSide (now x)) (c .old) had) ⌝ }
+    ensures roster { λ _. ⌜ now (roster .exit) ≡ oldRoster (now (x .entry)) c (inOld (now (x .entry)) j) ⌝ }
     ensures line { λ r. ⌜ r ≡ lineIn (inOld (now (x .entry)) j) ⌝ }
 {
     let line = in_old(x, j) / 2;
-    rows::refresh(
+    rosters::refresh(
         &x[scratch::OLD_SIDE..scratch::NEW_SIDE],
         c.old,
         had,
         line,
-        row,
+        roster,
     );
     line
 }
 
 // The same in new.
-pub fn refresh_new(x: &[u32], c: Counts, had: usize, j: usize, row: &mut [u64]) -> usize
-    requires { ⌜ (Walkable (now x) c × (j ≤ 256)) × (now row ≡ rowIn (newSide (now x)) (c .new) had) ⌝ }
-    ensures row { λ _. ⌜ now (row .exit) ≡ newRow (now (x .entry)) c (inNew (now (x .entry)) j) ⌝ }
+pub fn refresh_new(x: &[u32], c: Counts, had: usize, j: usize, roster: &mut [u64]) -> usize
+    requires { ⌜ (Walkable (now x) c × (j ≤ 256)) × (now roster ≡ rosterIn (newSide (now x)) (c .new) had) ⌝ }
+    ensures roster { λ _. ⌜ now (roster .exit) ≡ newRoster (now (x .entry)) c (inNew (now (x .entry)) j) ⌝ }
     ensures line { λ r. ⌜ r ≡ lineIn (inNew (now (x .entry)) j) ⌝ }
 {
     let line = in_new(x, j) / 2;
-    rows::refresh(
+    rosters::refresh(
         &x[scratch::NEW_SIDE..scratch::METHODS],
         c.new,
         had,
         line,
-        row,
+        roster,
     );
     line
 }

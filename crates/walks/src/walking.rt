@@ -11,7 +11,7 @@ use crate::gathering;
 use crate::stems;
 use grants::judging;
 use grants::judging::Caught;
-use grants::rows;
+use grants::rosters;
 use grants::scratch;
 use grants::scratch::Counts;
 
@@ -31,7 +31,7 @@ pub fn catch_behind(x: &[u32], c: Counts, j: usize, i: usize) -> Caught
     let old = &x[scratch::OLD_SIDE..scratch::NEW_SIDE];
     let new = &x[scratch::NEW_SIDE..scratch::METHODS];
     let pairs = &x[scratch::METHODS..scratch::IN_OLD];
-    judging::judge_places(old, c.old, new, c.new, pairs, c.methods, u, v)
+    judging::judge_lines(old, c.old, new, c.new, pairs, c.methods, u, v)
 }
 
 // The first extension by which stem j shows.
@@ -57,7 +57,7 @@ pub fn go_behind(x: &[u32], c: Counts, j: usize) -> Hit
     Hit::Nothing
 }
 
-// Who is caught where all extensions behind stem j, whose rows are ro and rn, are taken together.
+// Who is caught where all extensions behind stem j, whose rosters are ro and rn, are taken together.
 pub fn catch_together<'a>(
     x: &[u32],
     c: Counts,
@@ -75,7 +75,7 @@ pub fn catch_together<'a>(
     judging::judge(o, n, &x[scratch::METHODS..scratch::IN_OLD], c.methods)
 }
 
-// What stem j shows, whose rows are ro and rn.
+// What stem j shows, whose rosters are ro and rn.
 pub fn try_stem<'a>(
     x: &[u32],
     c: Counts,
@@ -101,14 +101,14 @@ pub fn try_stem<'a>(
     }
 }
 
-// Stem after stem. The rows are kept over the turns, since many stems have one best line.
+// Stem after stem. The rosters are kept over the turns, since many stems have one best line.
 pub fn walk_with<'a>(x: &[u32], c: Counts, each: &'a [u64], any: &'a [u64]) -> Hit
     requires { ⌜ Walkable (now x) c × Gathered (now x) c (now each) (now any) ⌝ }
     ensures { λ r. ⌜ r ≡ walked (now (x .entry)) c ⌝ }
 {
     let count = c.old + c.new + 1;
-    let mut ro = [rows::EVERYONE; 32];
-    let mut rn = [rows::EVERYONE; 32];
+    let mut ro = [rosters::EVERYONE; 32];
+    let mut rn = [rosters::EVERYONE; 32];
     let mut lo = 0;
     let mut ln = 0;
     let mut j = 0;
@@ -135,7 +135,7 @@ pub fn walk(x: &[u32], c: Counts) -> Hit
     requires { ⌜ Walkable (now x) c ⌝ }
     ensures { λ r. ⌜ r ≡ walked (now (x .entry)) c ⌝ }
 {
-    let mut each = [rows::EVERYONE; 32];
+    let mut each = [rosters::EVERYONE; 32];
     let mut any = [0; 32];
     gathering::gather_old(x, c, &mut each);
     gathering::gather_new(x, c, &mut any);

@@ -18,7 +18,7 @@ sets-append (x ∷ f) g b at =
     let e : at + suc (length f) ≡ suc at + length f = omega arith in
     ap (λ (k : ℕ). sets (sets (set b at x) (suc at) f) k g) e ∙ sets-append f g (set b at x) (suc at)
 
--- the same by places: f up to place k, then g
+-- the same by offsets: f up to offset k, then g
 pub sets-then : (b d d′ f g : Text) (at k : ℕ) → k ≡ at + length f → d ≡ sets b at f → d′ ≡ sets d k g → d′ ≡ sets b at (f ++ g)
 sets-then b d d′ f g at k e p q = q ∙ rw (p, e) (sets-append f g b at)
 
@@ -65,18 +65,18 @@ module _ (out : Text) (at n k : ℕ) where
     pub digits-one : (d : Text) → n < 10 → d ≡ set out at (48 + n) → (at + 1 ≡ at + length (digits k n)) × (d ≡ sets out at (digits k n))
     digits-one d h e = rw (one-digit k n some h) (refl, e)
 
-    -- there are more: those of n / 10, up to a place e, and the last
-    module _ (more : 10 ≤ n) (d d′ : Text) (e : ℕ) (place : e ≡ at + length (digits (k - 1) (n / 10))) where
+    -- there are more: those of n / 10, up to an offset e, and the last
+    module _ (more : 10 ≤ n) (d d′ : Text) (e : ℕ) (offset : e ≡ at + length (digits (k - 1) (n / 10))) where
       pub digits-more : d ≡ sets out at (digits (k - 1) (n / 10)) → d′ ≡ set d e (48 + n % 10) → (e + 1 ≡ at + length (digits k n)) × (d′ ≡ sets out at (digits k n))
       digits-more f g =
           rw (more-digits k n some more) (
             rw (length-append (digits (k - 1) (n / 10)) ((48 + n % 10) ∷ [])) (omega arith),
-            sets-then out d d′ (digits (k - 1) (n / 10)) ((48 + n % 10) ∷ []) at e place f g,
+            sets-then out d d′ (digits (k - 1) (n / 10)) ((48 + n % 10) ∷ []) at e offset f g,
           )
 
 -- ---- a letter and a number
-pub numbered-place : (at x n r : ℕ) → r ≡ at + 1 + length (digits 5 n) → r ≡ at + length (x ∷ digits 5 n)
-numbered-place at x n r p = omega arith
+pub numbered-offset : (at x n r : ℕ) → r ≡ at + 1 + length (digits 5 n) → r ≡ at + length (x ∷ digits 5 n)
+numbered-offset at x n r p = omega arith
 
 pub numbered-bytes : (out d d′ : Text) (at x n : ℕ) → d ≡ set out at x → d′ ≡ sets d (at + 1) (digits 5 n) → d′ ≡ sets out at (x ∷ digits 5 n)
 numbered-bytes out d d′ at x n e q = sets-then out d d′ (x ∷ []) (digits 5 n) at (at + 1) refl e q

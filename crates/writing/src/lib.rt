@@ -1,4 +1,4 @@
-// Bytes and numbers put into a lent buffer, clipped: what doesn't fit is not written, and the place behind it is handed back all the same. So a text is measured by
+// Bytes and numbers put into a lent buffer, clipped: what doesn't fit is not written, and the offset behind it is handed back all the same. So a text is measured by
 // writing it into the empty part of a buffer, and written where it fits, by the same code.
 ghost use mathlib.Core.Path.{_≡_};
 ghost use mathlib.Core.List.{_∷_};
@@ -16,10 +16,10 @@ pub fn store(out: &mut [u8], at: usize, b: u8)
     }
 }
 
-// A text, from a place on; the place behind it.
+// A text, from an offset on; the offset behind it.
 pub fn put(out: &mut [u8], at: usize, t: &[u8]) -> usize
     requires { ⌜ (at ≤ 1000000) × (length (now t) ≤ 1000000) ⌝ }
-    ensures place { λ r. ⌜ r ≡ at + length (now (t .entry)) ⌝ }
+    ensures offset { λ r. ⌜ r ≡ at + length (now (t .entry)) ⌝ }
     ensures bytes { λ _. ⌜ now (out .exit) ≡ sets (now (out .entry)) at (now (t .entry)) ⌝ }
 {
     let n = t.len();
@@ -31,10 +31,10 @@ pub fn put(out: &mut [u8], at: usize, t: &[u8]) -> usize
     at + n
 }
 
-// The last k decimal digits of n, from a place on; the place behind them.
+// The last k decimal digits of n, from an offset on; the offset behind them.
 pub fn put_digits(out: &mut [u8], at: usize, n: usize, k: usize) -> usize
     requires { ⌜ (at ≤ 1000000) × (k ≤ 10) ⌝ }
-    ensures place { λ r. ⌜ r ≡ at + length (digits k n) ⌝ }
+    ensures offset { λ r. ⌜ r ≡ at + length (digits k n) ⌝ }
     ensures bytes { λ _. ⌜ now (out .exit) ≡ sets (now (out .entry)) at (digits k n) ⌝ }
 {
     if k == 0 {
@@ -49,10 +49,10 @@ pub fn put_digits(out: &mut [u8], at: usize, n: usize, k: usize) -> usize
     e + 1
 }
 
-// A letter and the last five decimal digits of n, from a place on; the place behind them.
+// A letter and the last five decimal digits of n, from an offset on; the offset behind them.
 pub fn put_numbered(out: &mut [u8], at: usize, letter: u8, n: usize) -> usize
     requires { ⌜ at ≤ 999999 ⌝ }
-    ensures place { λ r. ⌜ r ≡ at + length (letter ∷ digits 5 n) ⌝ }
+    ensures offset { λ r. ⌜ r ≡ at + length (letter ∷ digits 5 n) ⌝ }
     ensures bytes { λ _. ⌜ now (out .exit) ≡ sets (now (out .entry)) at (letter ∷ digits 5 n) ⌝ }
 {
     store(out, at, letter);

@@ -4,8 +4,8 @@ use Rattle.callers.proofs.Callings.{login-one, login-other, login-named
 use Rattle.callers.proofs.caller.Statement.{statement}
 use Rattle.callers.proofs.caller.Tie as tie
 
-holder-requires : tie.Need-holder-requires
-holder-requires c κs = search needs
+logged-in-requires : tie.Need-logged-in-requires
+logged-in-requires c κs = search needs
 
 returns : tie.Need-returns
 returns c = search (needs, login-one)
@@ -20,4 +20,4 @@ returns-4 : tie.Need-returns-4
 returns-4 c = search (needs, login-none)
 
 pub caller-spec : {M : Type 1} → statement M
-caller-spec = tie.close (tie.spec holder-requires returns returns-2 returns-3 returns-4)
+caller-spec = tie.close (tie.spec logged-in-requires returns returns-2 returns-3 returns-4)

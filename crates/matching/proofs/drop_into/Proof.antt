@@ -2,13 +2,13 @@
 use borrow.Author.Needs.{needs}
 use Prim.Native.Nat.{_-_}
 use lib.ListN.{length}
-use Rattle.matching.proofs.Droppings.{Left, left-start, place-within, place-small, left-more, left-size, left-all}
+use Rattle.matching.proofs.Droppings.{Left, left-start, offset-within, offset-small, left-more, left-size, left-all}
 use Rattle.matching.proofs.drop_into.Statement.{statement}
 use Rattle.matching.proofs.drop_into.Tie as tie
 use Rattle.matching.proofs.drop_into.Reads as reads
 use Rattle.matching.proofs.drop_into.Lts as lts
 use Rattle.matching.proofs.is_dropped.Reads as is-dropped-reads
-use Rattle.matching.proofs.next_place.Reads as next-place-reads
+use Rattle.matching.proofs.next_offset.Reads as next-offset-reads
 
 abbrev Inv-loop : tie.InvT-loop
 Inv-loop out₀ path behind₀ n₀ i₀ out behind n i = Left path out₀ out behind n i
@@ -23,13 +23,13 @@ shared-slice-read-b : tie.Need-shared-slice-read-b Inv-loop μ-loop
 shared-slice-read-b c = search needs
 
 slice-write-out : tie.Need-slice-write-out Inv-loop μ-loop
-slice-write-out c = search (needs, place-within)
+slice-write-out c = search (needs, offset-within)
 
 is-dropped-requires : tie.Need-is-dropped-requires Inv-loop μ-loop
 is-dropped-requires c κs = search needs
 
-next-place-requires : tie.Need-next-place-requires Inv-loop μ-loop
-next-place-requires c κs = search (needs, place-small)
+next-offset-requires : tie.Need-next-offset-requires Inv-loop μ-loop
+next-offset-requires c κs = search (needs, offset-small)
 
 add-i : tie.Need-add-i Inv-loop μ-loop
 add-i c = search needs
@@ -56,7 +56,7 @@ drop-into-spec =
     shared-slice-read-b
     slice-write-out
     is-dropped-requires
-    next-place-requires
+    next-offset-requires
     add-i
     loop-less
     loop-again

@@ -1,7 +1,7 @@
 -- `matching::is_under` meets its contract: the path starts with P, and ends there or goes on with `/`.
 use borrow.Author.Needs.{needs}
 use Rattle.names.proofs.Namings.{tests}
-use Rattle.matching.proofs.Matchings.{under-is, under-within, eqb-held, eqb-failed}
+use Rattle.matching.proofs.Matchings.{under-is, under-within, eqb-passed, eqb-failed}
 use Rattle.matching.proofs.is_under.Statement.{statement}
 use Rattle.matching.proofs.is_under.Tie as tie
 
@@ -12,7 +12,7 @@ returns : tie.Need-returns
 returns c = search (needs, tests, under-is)
 
 returns-2 : tie.Need-returns-2
-returns-2 c = search (needs, tests, under-is, eqb-held)
+returns-2 c = search (needs, tests, under-is, eqb-passed)
 
 shared-slice-read-result : tie.Need-shared-slice-read-result
 shared-slice-read-result c = search (needs, under-within)

@@ -1,7 +1,7 @@
 -- `names::is_pattern` meets its contract, test by test.
 use borrow.Author.Needs.{needs}
 use Rattle.names.specs.Names.{isPattern}
-use Rattle.names.proofs.Namings.{tests, marked-fails, unmarked-goes-on}
+use Rattle.names.proofs.Namings.{tests, semicolon-fails, without-goes-on}
 use Rattle.names.proofs.is_pattern.Statement.{statement}
 use Rattle.names.proofs.is_pattern.Tie as tie
 use Rattle.names.proofs.is_pattern.Reads as reads
@@ -31,13 +31,13 @@ has-byte-requires : tie.Need-has-byte-requires
 has-byte-requires c κs = search needs
 
 returns-4 : tie.Need-returns-4
-returns-4 c = search (needs, marked-fails)
+returns-4 c = search (needs, semicolon-fails)
 
 is-permitted-requires : tie.Need-is-permitted-requires
 is-permitted-requires c κs = search needs
 
 returns-5 : tie.Need-returns-5
-returns-5 c = search (needs, unmarked-goes-on)
+returns-5 c = search (needs, without-goes-on)
 
 pub is-pattern-spec : {M : Type 1} → statement M
 is-pattern-spec =

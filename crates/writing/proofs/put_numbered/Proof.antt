@@ -1,6 +1,6 @@
 -- `put_numbered` meets its contract: the letter, and the digits behind it.
 use borrow.Author.Needs.{needs}
-use Rattle.writing.proofs.Puts.{numbered-place, numbered-bytes}
+use Rattle.writing.proofs.Puts.{numbered-offset, numbered-bytes}
 use Rattle.writing.proofs.put_numbered.Statement.{statement}
 use Rattle.writing.proofs.put_numbered.Tie as tie
 
@@ -17,7 +17,7 @@ same-length : tie.Need-same-length
 same-length c = search needs
 
 returns : tie.Need-returns
-returns c = search (needs, numbered-place, numbered-bytes)
+returns c = search (needs, numbered-offset, numbered-bytes)
 
 pub put-numbered-spec : {M : Type 1} → statement M
 put-numbered-spec = tie.close (tie.spec store-requires add-put-digits put-digits-requires same-length returns)

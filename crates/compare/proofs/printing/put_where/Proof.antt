@@ -1,6 +1,6 @@
 -- `printing::put_where` meets its contract: two fields, and byte 10.
 use borrow.Author.Needs.{needs}
-use Rattle.compare.proofs.Pieces.{where-place, where-bytes}
+use Rattle.compare.proofs.Pieces.{where-offset, where-bytes}
 use Rattle.compare.proofs.printing.put_where.Statement.{statement}
 use Rattle.compare.proofs.printing.put_where.Tie as tie
 
@@ -20,7 +20,7 @@ same-length : tie.Need-same-length
 same-length c = search needs
 
 returns : tie.Need-returns
-returns c = (search (needs, where-place), search (needs, where-bytes))
+returns c = (search (needs, where-offset), search (needs, where-bytes))
 
 pub put-where-spec : {M : Type 1} → statement M
 put-where-spec =

@@ -1,4 +1,4 @@
--- `parts::byte_at` meets its contract: there is a byte at place i, or there is none.
+-- `parts::byte_at` meets its contract: there is a byte at offset i, or there is none.
 use Prim.Native.Nat.{ℕ, _≤_}
 use mathlib.Core.Path.{_≡_, sym}
 use mathlib.Core.List.{List}

@@ -2,7 +2,7 @@
 use native.Mathlib.Omega.{arith}
 use borrow.Author.Needs.{needs}
 use Rattle.worktable.proofs.Lent.{lent-length}
-use Rattle.deciding.proofs.Calls.{path-short, unmarked-answer, marked-answer}
+use Rattle.deciding.proofs.Calls.{path-short, answer-without, answer-with}
 use Rattle.deciding.proofs.decider.answer_for.Statement.{statement}
 use Rattle.deciding.proofs.decider.answer_for.Tie as tie
 
@@ -13,7 +13,7 @@ answer-at-requires : tie.Need-answer-at-requires
 answer-at-requires c κs = search needs
 
 returns : tie.Need-returns
-returns c = search (needs, unmarked-answer)
+returns c = search (needs, answer-without)
 
 slice-aggregate-drop-into : tie.Need-slice-aggregate-drop-into
 slice-aggregate-drop-into c = search needs
@@ -31,7 +31,7 @@ answer-at-requires-2 : tie.Need-answer-at-requires-2
 answer-at-requires-2 c κs = search needs
 
 returns-2 : tie.Need-returns-2
-returns-2 c = search (needs, marked-answer)
+returns-2 c = search (needs, answer-with)
 
 pub answer-for-spec : {M : Type 1} → statement M
 answer-for-spec =

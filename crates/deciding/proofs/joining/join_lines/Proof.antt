@@ -1,4 +1,4 @@
--- `joining::join_lines` meets its contract: the loop holds what the lines passed come to.
+-- `joining::join_lines` meets its contract: the loop keeps what the lines passed come to.
 use borrow.Author.Needs.{needs}
 use mathlib.Core.Path.{_≡_}
 use Prim.Native.Nat.{_-_, _≤_}

@@ -1,10 +1,10 @@
--- `work::fill` meets its contract: after i turns the first i places are filled.
+-- `work::fill` meets its contract: after i turns the first i indices are filled.
 use Prim.Native.Nat.{_≤_, _-_}
 use mathlib.Core.Path.{_≡_}
 use borrow.Author.Needs.{needs}
 use lib.ListN.{length, take, length-set}
 use Rattle.edges.specs.Garbage.{garbage}
-use Rattle.edges.proofs.Places.{fill-step, fill-end}
+use Rattle.edges.proofs.Numbers.{fill-step, fill-end}
 use Rattle.edges.proofs.work.fill.Statement.{statement}
 use Rattle.edges.proofs.work.fill.Tie as tie
 

@@ -4,7 +4,7 @@ use mathlib.Core.Path.{_≡_}
 use borrow.Author.Needs.{needs}
 use lib.ListN.{length}
 use Rattle.edges.specs.Garbage.{garbageAt, isKept}
-use Rattle.edges.proofs.Places.{holds-differs, holds-step, holds-end}
+use Rattle.edges.proofs.Numbers.{agrees-differs, agrees-step, agrees-end}
 use Rattle.edges.proofs.work.is_kept.Statement.{statement}
 use Rattle.edges.proofs.work.is_kept.Tie as tie
 
@@ -27,7 +27,7 @@ garbage-at-requires : tie.Need-garbage-at-requires Inv-loop μ-loop
 garbage-at-requires c κs = search needs
 
 returns : tie.Need-returns Inv-loop μ-loop
-returns c = search (needs, holds-differs garbageAt)
+returns c = search (needs, agrees-differs garbageAt)
 
 add-i : tie.Need-add-i Inv-loop μ-loop
 add-i c = search needs
@@ -36,10 +36,10 @@ loop-less : tie.Need-loop-less Inv-loop μ-loop
 loop-less c = search needs
 
 loop-again : tie.Need-loop-again Inv-loop μ-loop
-loop-again c = search (needs, holds-step garbageAt)
+loop-again c = search (needs, agrees-step garbageAt)
 
 returns-2 : tie.Need-returns-2 Inv-loop μ-loop
-returns-2 c = search (needs, holds-end garbageAt)
+returns-2 c = search (needs, agrees-end garbageAt)
 
 pub is-kept-spec : {M : Type 1} → statement M
 is-kept-spec =

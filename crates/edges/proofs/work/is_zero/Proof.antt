@@ -3,8 +3,8 @@ use Prim.Native.Nat.{ℕ, _-_}
 use mathlib.Core.Path.{_≡_, refl}
 use borrow.Author.Needs.{needs}
 use lib.ListN.{length, drop}
-use Rattle.edges.specs.Garbage.{holds, isZero}
-use Rattle.edges.proofs.Places.{holds-differs, holds-step, holds-end}
+use Rattle.edges.specs.Garbage.{agrees, isZero}
+use Rattle.edges.proofs.Numbers.{agrees-differs, agrees-step, agrees-end}
 use Rattle.edges.proofs.work.is_zero.Statement.{statement}
 use Rattle.edges.proofs.work.is_zero.Tie as tie
 
@@ -12,7 +12,7 @@ abbrev zeroAt : ℕ → ℕ
 zeroAt i = 0
 
 abbrev Inv-loop : tie.InvT-loop
-Inv-loop w i₀ i = isZero w ≡ holds zeroAt i (drop i w)
+Inv-loop w i₀ i = isZero w ≡ agrees zeroAt i (drop i w)
 
 abbrev μ-loop : tie.MeasureT-loop
 μ-loop w i₀ i = length w - i
@@ -27,7 +27,7 @@ shared-slice-read-if1 : tie.Need-shared-slice-read-if1 Inv-loop μ-loop
 shared-slice-read-if1 c = search needs
 
 returns : tie.Need-returns Inv-loop μ-loop
-returns c = holds-differs zeroAt _ _ _ (c .before .before .before .loop .inv) 0 (search needs) (c .if1 .taken) refl
+returns c = agrees-differs zeroAt _ _ _ (c .before .before .before .loop .inv) 0 (search needs) (c .if1 .taken) refl
 
 add-i : tie.Need-add-i Inv-loop μ-loop
 add-i c = search needs
@@ -36,10 +36,10 @@ loop-less : tie.Need-loop-less Inv-loop μ-loop
 loop-less c = search needs
 
 loop-again : tie.Need-loop-again Inv-loop μ-loop
-loop-again c = search (needs, holds-step zeroAt)
+loop-again c = search (needs, agrees-step zeroAt)
 
 returns-2 : tie.Need-returns-2 Inv-loop μ-loop
-returns-2 c = search (needs, holds-end zeroAt)
+returns-2 c = search (needs, agrees-end zeroAt)
 
 pub is-zero-spec : {M : Type 1} → statement M
 is-zero-spec =

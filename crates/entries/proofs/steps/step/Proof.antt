@@ -1,4 +1,4 @@
--- `steps::step` meets its contract: out of its place, or by what `field` ensures.
+-- `steps::step` meets its contract: in a wrong place, or by what `field` ensures.
 use borrow.Author.Needs.{needs}
 use Rattle.entries.proofs.Effects.{step-misplaced, step-placed}
 use Rattle.entries.proofs.steps.step.Statement.{statement}

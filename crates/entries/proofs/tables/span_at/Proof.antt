@@ -1,4 +1,4 @@
--- `tables::span_at` meets its contract: what the place and the length say.
+-- `tables::span_at` meets its contract: what the offset and the length say.
 use borrow.Author.Needs.{needs}
 use Rattle.entries.proofs.Regions.{span-in, span-out}
 use Rattle.entries.proofs.tables.span_at.Statement.{statement}

@@ -1,4 +1,4 @@
--- `tables::text_at` meets its contract: what the place and the length say, if it has the stamp.
+-- `tables::text_at` meets its contract: what the offset and the length say, if it has the stamp.
 use borrow.Author.Needs.{needs}
 use Rattle.entries.proofs.Regions.{text-in, text-other, text-out}
 use Rattle.entries.proofs.tables.text_at.Statement.{statement}

@@ -4,11 +4,11 @@ use Rattle.listings.proofs.Followings.{follows-digit}
 use Rattle.listings.proofs.records.may_follow.Statement.{statement}
 use Rattle.listings.proofs.records.may_follow.Tie as tie
 
-places-requires : tie.Need-places-requires
-places-requires c κs = search needs
+stages-requires : tie.Need-stages-requires
+stages-requires c κs = search needs
 
-place-number-requires : tie.Need-place-number-requires
-place-number-requires c κs = search needs
+stage-number-requires : tie.Need-stage-number-requires
+stage-number-requires c κs = search needs
 
 cast-result : tie.Need-cast-result
 cast-result c = search needs
@@ -21,4 +21,4 @@ returns c = search (needs, follows-digit)
 
 pub may-follow-spec : {M : Type 1} → statement M
 may-follow-spec =
-    tie.close (tie.spec places-requires place-number-requires cast-result shr-result returns)
+    tie.close (tie.spec stages-requires stage-number-requires cast-result shr-result returns)

@@ -7,21 +7,21 @@ use Rattle.numbers.proofs.sides.fill_plain.Tie as tie
 fill-covers-requires : tie.Need-fill-covers-requires
 fill-covers-requires c κs = search (needs, side-first)
 
-add-fill-marks : tie.Need-add-fill-marks
-add-fill-marks c = search needs
+add-fill-accesses : tie.Need-add-fill-accesses
+add-fill-accesses c = search needs
 
-fill-marks-requires : tie.Need-fill-marks-requires
-fill-marks-requires c κs = search (needs, side-second)
+fill-accesses-requires : tie.Need-fill-accesses-requires
+fill-accesses-requires c κs = search (needs, side-second)
 
 add-fill-gaps : tie.Need-add-fill-gaps
 add-fill-gaps c = search needs
 
 fill-gaps-requires : tie.Need-fill-gaps-requires
 fill-gaps-requires c κs =
-    let marks = c .before .before .before in
-    let covers = marks .before .before .before .before in
+    let accesses = c .before .before .before in
+    let covers = accesses .before .before .before .before in
     let G = covers .before .before .before .before .pre in
-    side-gaps _ _ _ _ _ (G .lent) _ (covers .fill-covers .ensures) _ (marks .fill-marks .ensures) _ G
+    side-gaps _ _ _ _ _ (G .lent) _ (covers .fill-covers .ensures) _ (accesses .fill-accesses .ensures) _ G
 
 same-length : tie.Need-same-length
 same-length c = search needs
@@ -34,8 +34,8 @@ fill-plain-spec =
     tie.close
     (tie.spec
     fill-covers-requires
-    add-fill-marks
-    fill-marks-requires
+    add-fill-accesses
+    fill-accesses-requires
     add-fill-gaps
     fill-gaps-requires
     same-length

@@ -1,4 +1,4 @@
--- `sides::renumber` meets its contract: the loop holds the set of those roles of the map that are passed.
+-- `sides::renumber` meets its contract: the loop keeps the set of those roles of the map that are passed.
 use borrow.Author.Needs.{needs}
 use Prim.Native.Nat.{_-_}
 use Rattle.numbers.proofs.SideLines.{Renumbering, set-start, set-has, set-misses, set-lacks, set-all}

@@ -7,14 +7,14 @@ use Rattle.numbers.proofs.stems.stem_of.Tie as tie
 sort-of-requires : tie.Need-sort-of-requires
 sort-of-requires c κs = search needs
 
-place-at-requires : tie.Need-place-at-requires
-place-at-requires c κs = search (needs, fresh-old)
+best-at-requires : tie.Need-best-at-requires
+best-at-requires c κs = search (needs, fresh-old)
 
-place-at-requires-2 : tie.Need-place-at-requires-2
-place-at-requires-2 c κs = search (needs, fresh-new)
+best-at-requires-2 : tie.Need-best-at-requires-2
+best-at-requires-2 c κs = search (needs, fresh-new)
 
 returns : tie.Need-returns
 returns c = search (needs, fresh-is)
 
 pub stem-of-spec : {M : Type 1} → statement M
-stem-of-spec = tie.close (tie.spec sort-of-requires place-at-requires place-at-requires-2 returns)
+stem-of-spec = tie.close (tie.spec sort-of-requires best-at-requires best-at-requires-2 returns)

@@ -1,4 +1,4 @@
--- `held::access_of` meets its contract: the line's constraint has its mark and its set in the table.
+-- `held::access_of` meets its contract: the line's constraint has the number of its access and its set in the table.
 use borrow.Author.Needs.{needs}
 use Rattle.reading.proofs.Holdings.{near, rule-near, parent-near, access-open, access-closed, access-by-role}
 use Rattle.reading.proofs.held.access_of.Statement.{statement}
@@ -16,14 +16,14 @@ shared-slice-read-wide c = search (needs, near, rule-near)
 wide-requires : tie.Need-wide-requires
 wide-requires c κs = search needs
 
-add-mark : tie.Need-add-mark
-add-mark c = search (needs, near, parent-near)
+add-number : tie.Need-add-number
+add-number c = search (needs, near, parent-near)
 
-mul-mark : tie.Need-mul-mark
-mul-mark c = search (needs, near, parent-near)
+mul-number : tie.Need-mul-number
+mul-number c = search (needs, near, parent-near)
 
-shared-slice-read-mark : tie.Need-shared-slice-read-mark
-shared-slice-read-mark c = search (needs, near, parent-near)
+shared-slice-read-number : tie.Need-shared-slice-read-number
+shared-slice-read-number c = search (needs, near, parent-near)
 
 returns : tie.Need-returns
 returns c = search (needs, access-open)
@@ -54,9 +54,9 @@ access-of-spec =
     mul-wide
     shared-slice-read-wide
     wide-requires
-    add-mark
-    mul-mark
-    shared-slice-read-mark
+    add-number
+    mul-number
+    shared-slice-read-number
     returns
     returns-2
     add-wide-set

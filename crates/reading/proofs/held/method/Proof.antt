@@ -1,4 +1,4 @@
--- `held::method` meets its contract: the number at the method's place names its text.
+-- `held::method` meets its contract: the number at the method's index names its text.
 use borrow.Author.Needs.{needs}
 use Rattle.reading.proofs.Holdings.{near, method-near, method-text}
 use Rattle.reading.proofs.held.method.Statement.{statement}

@@ -1,4 +1,4 @@
--- `held::pattern` meets its contract: the number at the line's place spans its text.
+-- `held::pattern` meets its contract: the number at the line's index spans its text.
 use borrow.Author.Needs.{needs}
 use Rattle.reading.proofs.Holdings.{near, rule-near, rule-text}
 use Rattle.reading.proofs.held.pattern.Statement.{statement}

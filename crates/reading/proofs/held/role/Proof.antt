@@ -1,4 +1,4 @@
--- `held::role` meets its contract: the number at the role's place names its text.
+-- `held::role` meets its contract: the number at the role's index names its text.
 use borrow.Author.Needs.{needs}
 use Rattle.reading.proofs.Holdings.{near, role-near, role-text}
 use Rattle.reading.proofs.held.role.Statement.{statement}

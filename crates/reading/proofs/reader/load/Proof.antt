@@ -1,4 +1,4 @@
--- `reader::load` meets its contract: a walk of its MIR, by hand. A `Reader` is made of the text and the place 0 in a local, goes past the first line, and fills the table. All that the proof knows of `past_first` and `fill` is that each meets its contract.
+-- `reader::load` meets its contract: a walk of its MIR, by hand. A `Reader` is made of the text and the offset 0 in a local, goes past the first line, and fills the table. All that the proof knows of `past_first` and `fill` is that each meets its contract.
 -- What the text's reference owns is had twice, and one copy is kept for the exit. The table is given up to `fill` for good, at its own lifetime, share and name.
 use mathlib.Core.Path.{_≡_, refl}
 use Prim.Native.Nat.{ℕ, _≤_}

@@ -1,6 +1,6 @@
 -- `hits::put_caller` meets its contract: one line or the other.
 use borrow.Author.Needs.{needs}
-use Rattle.showing.proofs.Pieces.{role-from, role-short, role-near, role-there, none-place, none-bytes, role-place, role-bytes}
+use Rattle.showing.proofs.Pieces.{role-from, role-short, role-near, role-there, none-offset, none-bytes, role-offset, role-bytes}
 use Rattle.showing.proofs.hits.put_caller.Statement.{statement}
 use Rattle.showing.proofs.hits.put_caller.Tie as tie
 
@@ -14,7 +14,7 @@ same-length : tie.Need-same-length
 same-length c = search needs
 
 returns : tie.Need-returns
-returns c = (search (needs, none-place), search (needs, none-bytes))
+returns c = (search (needs, none-offset), search (needs, none-bytes))
 
 slice-aggregate-put-2 : tie.Need-slice-aggregate-put-2
 slice-aggregate-put-2 c = search needs
@@ -41,7 +41,7 @@ same-length-2 : tie.Need-same-length-2
 same-length-2 c = search needs
 
 returns-2 : tie.Need-returns-2
-returns-2 c = (search (needs, role-place), search (needs, role-bytes))
+returns-2 c = (search (needs, role-offset), search (needs, role-bytes))
 
 pub put-caller-spec : {M : Type 1} → statement M
 put-caller-spec =

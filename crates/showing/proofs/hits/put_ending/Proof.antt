@@ -1,11 +1,11 @@
 -- `hits::put_ending` meets its contract: nothing, or the line's text behind its first byte.
 use borrow.Author.Needs.{needs}
-use Rattle.showing.proofs.Pieces.{no-ending-place, no-ending-bytes, ending-there, ending-long, ending-short, ending-place, ending-bytes, line-pattern}
+use Rattle.showing.proofs.Pieces.{no-ending-offset, no-ending-bytes, ending-there, ending-long, ending-short, ending-offset, ending-bytes, line-pattern}
 use Rattle.showing.proofs.hits.put_ending.Statement.{statement}
 use Rattle.showing.proofs.hits.put_ending.Tie as tie
 
 returns : tie.Need-returns
-returns c = (search (needs, no-ending-place), search (needs, no-ending-bytes))
+returns c = (search (needs, no-ending-offset), search (needs, no-ending-bytes))
 
 sub-line-text : tie.Need-sub-line-text
 sub-line-text c = search needs
@@ -29,7 +29,7 @@ same-length : tie.Need-same-length
 same-length c = search needs
 
 returns-2 : tie.Need-returns-2
-returns-2 c = (search (needs, ending-place), search (needs, ending-bytes))
+returns-2 c = (search (needs, ending-offset), search (needs, ending-bytes))
 
 pub put-ending-spec : {M : Type 1} → statement M
 put-ending-spec =

@@ -1,6 +1,6 @@
 -- `hits::put_head` meets its contract: three pieces one after the other.
 use borrow.Author.Needs.{needs}
-use Rattle.showing.proofs.Pieces.{path-near, head-near, head-place, head-bytes}
+use Rattle.showing.proofs.Pieces.{path-near, head-near, head-offset, head-bytes}
 use Rattle.showing.proofs.hits.put_head.Statement.{statement}
 use Rattle.showing.proofs.hits.put_head.Tie as tie
 
@@ -23,7 +23,7 @@ same-length : tie.Need-same-length
 same-length c = search needs
 
 returns : tie.Need-returns
-returns c = (search (needs, head-place), (search (needs, head-near), search (needs, head-bytes)))
+returns c = (search (needs, head-offset), (search (needs, head-near), search (needs, head-bytes)))
 
 pub put-head-spec : {M : Type 1} → statement M
 put-head-spec =

@@ -1,6 +1,6 @@
 -- `hits::put_method` meets its contract: new's name, old's, or the filler method.
 use borrow.Author.Needs.{needs}
-use Rattle.showing.proofs.Methods.{first-read, second-read, method-short, method-there, new-place, new-bytes, old-place, old-bytes, filler-place, filler-bytes}
+use Rattle.showing.proofs.Methods.{first-read, second-read, method-short, method-there, new-offset, new-bytes, old-offset, old-bytes, filler-offset, filler-bytes}
 use Rattle.showing.proofs.hits.put_method.Statement.{statement}
 use Rattle.showing.proofs.hits.put_method.Tie as tie
 
@@ -47,7 +47,7 @@ same-length : tie.Need-same-length
 same-length c = search needs
 
 returns : tie.Need-returns
-returns c = (search (needs, new-place), search (needs, new-bytes))
+returns c = (search (needs, new-offset), search (needs, new-bytes))
 
 add-wide-2 : tie.Need-add-wide-2
 add-wide-2 c = search (needs, second-read)
@@ -92,7 +92,7 @@ same-length-2 : tie.Need-same-length-2
 same-length-2 c = search needs
 
 returns-2 : tie.Need-returns-2
-returns-2 c = (search (needs, old-place), search (needs, old-bytes))
+returns-2 c = (search (needs, old-offset), search (needs, old-bytes))
 
 sub-method-number : tie.Need-sub-method-number
 sub-method-number c = search needs
@@ -128,7 +128,7 @@ returns-3 c =
     let past-old = number .before .before .before in
     let past-new = past-old .before .before .before .before .before in
     let start = past-new .before .before .before .before .before .before .before .before .before .before .before in
-    let named = filler-place _ _ _ _ (start .pre .0) _ (start .pre .1 .0) _ _ _ _ _ (past-new .before .before .before .wide .ensures) (past-new .before .method-count .ensures) (past-new .if1 .left) (past-old .before .before .before .wide2 .ensures) (past-old .before .method-count2 .ensures) (past-old .if2 .left) (number .method-number .ensures) in
+    let named = filler-offset _ _ _ _ (start .pre .0) _ (start .pre .1 .0) _ _ _ _ _ (past-new .before .before .before .wide .ensures) (past-new .before .method-count .ensures) (past-new .if1 .left) (past-old .before .before .before .wide2 .ensures) (past-old .before .method-count2 .ensures) (past-old .if2 .left) (number .method-number .ensures) in
     let written = filler-bytes _ _ _ _ (start .pre .0) _ (start .pre .1 .0) _ _ _ _ _ (past-new .before .before .before .wide .ensures) (past-new .before .method-count .ensures) (past-new .if1 .left) (past-old .before .before .before .wide2 .ensures) (past-old .before .method-count2 .ensures) (past-old .if2 .left) (number .method-number .ensures) in
     (named _ _ (put .0), written _ _ _ (put .1))
 

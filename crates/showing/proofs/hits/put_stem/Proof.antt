@@ -1,6 +1,6 @@
 -- `hits::put_stem` meets its contract: the stem of a line, or the last.
 use borrow.Author.Needs.{needs}
-use Rattle.showing.proofs.Pieces.{line-there, line-pattern, stem-place, stem-bytes, last-place, last-bytes}
+use Rattle.showing.proofs.Pieces.{line-there, line-pattern, stem-offset, stem-bytes, last-offset, last-bytes}
 use Rattle.showing.proofs.hits.put_stem.Statement.{statement}
 use Rattle.showing.proofs.hits.put_stem.Tie as tie
 
@@ -17,7 +17,7 @@ same-length : tie.Need-same-length
 same-length c = search needs
 
 returns : tie.Need-returns
-returns c = (search (needs, stem-place), search (needs, stem-bytes))
+returns c = (search (needs, stem-offset), search (needs, stem-bytes))
 
 slice-aggregate-put-below : tie.Need-slice-aggregate-put-below
 slice-aggregate-put-below c = search needs
@@ -29,7 +29,7 @@ same-length-2 : tie.Need-same-length-2
 same-length-2 c = search needs
 
 returns-2 : tie.Need-returns-2
-returns-2 c = (search (needs, last-place), search (needs, last-bytes))
+returns-2 c = (search (needs, last-offset), search (needs, last-bytes))
 
 pub put-stem-spec : {M : Type 1} → statement M
 put-stem-spec =

@@ -1,6 +1,6 @@
 -- `hits::put_tail` meets its contract: three pieces one after the other.
 use borrow.Author.Needs.{needs}
-use Rattle.showing.proofs.Pieces.{method-near, caller-near, tail-place, tail-bytes}
+use Rattle.showing.proofs.Pieces.{method-near, caller-near, tail-offset, tail-bytes}
 use Rattle.showing.proofs.hits.put_tail.Statement.{statement}
 use Rattle.showing.proofs.hits.put_tail.Tie as tie
 
@@ -29,7 +29,7 @@ same-length : tie.Need-same-length
 same-length c = search needs
 
 returns : tie.Need-returns
-returns c = (search (needs, tail-place), search (needs, tail-bytes))
+returns c = (search (needs, tail-offset), search (needs, tail-bytes))
 
 pub put-tail-spec : {M : Type 1} → statement M
 put-tail-spec =

@@ -1,6 +1,6 @@
 -- `paths::put_below` meets its contract: three texts one after the other.
 use borrow.Author.Needs.{needs}
-use Rattle.showing.proofs.StemPaths.{below-place, below-bytes}
+use Rattle.showing.proofs.StemPaths.{below-offset, below-bytes}
 use Rattle.showing.proofs.paths.put_below.Statement.{statement}
 use Rattle.showing.proofs.paths.put_below.Tie as tie
 
@@ -20,7 +20,7 @@ same-length : tie.Need-same-length
 same-length c = search needs
 
 returns : tie.Need-returns
-returns c = (search (needs, below-place), search (needs, below-bytes))
+returns c = (search (needs, below-offset), search (needs, below-bytes))
 
 pub put-below-spec : {M : Type 1} → statement M
 put-below-spec =

@@ -2,7 +2,7 @@
 use borrow.Author.Needs.{needs}
 use Rattle.worktable.proofs.Lent.{lent-length}
 use Rattle.matching.proofs.Matchings.{ended-long}
-use Rattle.showing.proofs.StemPaths.{root-short, tail-short, head-short, text-short, empty-place, empty-bytes, default-place, default-bytes, starred-place, starred-bytes, prefix-place, prefix-bytes, exact-place, exact-bytes}
+use Rattle.showing.proofs.StemPaths.{root-short, tail-short, head-short, text-short, empty-offset, empty-bytes, default-offset, default-bytes, starred-offset, starred-bytes, prefix-offset, prefix-bytes, exact-offset, exact-bytes}
 use Rattle.showing.proofs.paths.put_stem.Statement.{statement}
 use Rattle.showing.proofs.paths.put_stem.Tie as tie
 
@@ -16,7 +16,7 @@ same-length : tie.Need-same-length
 same-length c = search needs
 
 returns : tie.Need-returns
-returns c = (search (needs, empty-place), search (needs, empty-bytes))
+returns c = (search (needs, empty-offset), search (needs, empty-bytes))
 
 slice-aggregate-are-same : tie.Need-slice-aggregate-are-same
 slice-aggregate-are-same c = search needs
@@ -34,7 +34,7 @@ same-length-2 : tie.Need-same-length-2
 same-length-2 c = search needs
 
 returns-2 : tie.Need-returns-2
-returns-2 c = (search (needs, default-place), search (needs, default-bytes))
+returns-2 c = (search (needs, default-offset), search (needs, default-bytes))
 
 slice-aggregate-starts-with : tie.Need-slice-aggregate-starts-with
 slice-aggregate-starts-with c = search needs
@@ -64,7 +64,7 @@ same-length-3 : tie.Need-same-length-3
 same-length-3 c = search needs
 
 returns-3 : tie.Need-returns-3
-returns-3 c = (search (needs, starred-place), search (needs, starred-bytes))
+returns-3 c = (search (needs, starred-offset), search (needs, starred-bytes))
 
 slice-aggregate-ends-with : tie.Need-slice-aggregate-ends-with
 slice-aggregate-ends-with c = search needs
@@ -85,7 +85,7 @@ same-length-4 : tie.Need-same-length-4
 same-length-4 c = search needs
 
 returns-4 : tie.Need-returns-4
-returns-4 c = (search (needs, prefix-place), search (needs, prefix-bytes))
+returns-4 c = (search (needs, prefix-offset), search (needs, prefix-bytes))
 
 put-requires-3 : tie.Need-put-requires-3
 put-requires-3 c κs = (search needs, search (needs, text-short))
@@ -94,7 +94,7 @@ same-length-5 : tie.Need-same-length-5
 same-length-5 c = search needs
 
 returns-5 : tie.Need-returns-5
-returns-5 c = (search (needs, exact-place), search (needs, exact-bytes))
+returns-5 c = (search (needs, exact-offset), search (needs, exact-bytes))
 
 pub put-stem-spec : {M : Type 1} → statement M
 put-stem-spec =

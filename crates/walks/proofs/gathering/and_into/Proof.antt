@@ -8,10 +8,10 @@ use Rattle.walks.proofs.gathering.and_into.Statement.{statement}
 use Rattle.walks.proofs.gathering.and_into.Tie as tie
 
 abbrev Inv-loop : tie.InvT-loop
-Inv-loop row each₀ m₀ each m = Mixing 32 (andAt each₀ row) each₀ m each
+Inv-loop roster each₀ m₀ each m = Mixing 32 (andAt each₀ roster) each₀ m each
 
 abbrev μ-loop : tie.MeasureT-loop
-μ-loop row each₀ m₀ each m = 32 - m
+μ-loop roster each₀ m₀ each m = 32 - m
 
 loop-holds : tie.Need-loop-holds Inv-loop μ-loop
 loop-holds c = search (needs, and-start)

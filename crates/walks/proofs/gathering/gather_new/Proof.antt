@@ -2,25 +2,25 @@
 use borrow.Author.Needs.{needs}
 use mathlib.Core.Path.{_≡_}
 use Prim.Native.Nat.{_-_}
-use Rattle.grants.specs.Sides.{rowIn}
+use Rattle.grants.specs.Sides.{rosterIn}
 use Rattle.grants.specs.Scratch.{newSide}
-use Rattle.grants.proofs.Granting.{row-size}
+use Rattle.grants.proofs.Granting.{roster-size}
 use Rattle.walks.specs.Gathers.{HasNew}
-use Rattle.walks.proofs.Gatherings.{row-of-none, row-of-line, new-start, new-more, new-pass, new-all}
+use Rattle.walks.proofs.Gatherings.{roster-of-none, roster-of-line, new-start, new-more, new-pass, new-all}
 use Rattle.walks.proofs.gathering.gather_new.Statement.{statement}
 use Rattle.walks.proofs.gathering.gather_new.Tie as tie
 
 abbrev Inv-loop : tie.InvT-loop
-Inv-loop x c any₀ count row₀ had₀ i₀ any row had i = HasNew x c i any × (row ≡ rowIn (newSide x) (c .new) had)
+Inv-loop x c any₀ count roster₀ had₀ i₀ any roster had i = HasNew x c i any × (roster ≡ rosterIn (newSide x) (c .new) had)
 
 abbrev μ-loop : tie.MeasureT-loop
-μ-loop x c any₀ count row₀ had₀ i₀ any row had i = count - i
+μ-loop x c any₀ count roster₀ had₀ i₀ any roster had i = count - i
 
 add-count : tie.Need-add-count Inv-loop μ-loop
 add-count c = search needs
 
 loop-holds : tie.Need-loop-holds Inv-loop μ-loop
-loop-holds c = (search (needs, new-start), search (needs, row-of-none))
+loop-holds c = (search (needs, new-start), search (needs, roster-of-none))
 
 add-next : tie.Need-add-next Inv-loop μ-loop
 add-next c = search needs
@@ -29,7 +29,7 @@ is-of-sort-requires : tie.Need-is-of-sort-requires Inv-loop μ-loop
 is-of-sort-requires c κs = search needs
 
 slice-aggregate-refresh-new : tie.Need-slice-aggregate-refresh-new Inv-loop μ-loop
-slice-aggregate-refresh-new c = search (needs, row-size)
+slice-aggregate-refresh-new c = search (needs, roster-size)
 
 refresh-new-requires : tie.Need-refresh-new-requires Inv-loop μ-loop
 refresh-new-requires c κs = search needs
@@ -38,13 +38,13 @@ slice-aggregate-or-into : tie.Need-slice-aggregate-or-into Inv-loop μ-loop
 slice-aggregate-or-into c = search needs
 
 or-into-requires : tie.Need-or-into-requires Inv-loop μ-loop
-or-into-requires c κs = search (needs, row-size)
+or-into-requires c κs = search (needs, roster-size)
 
 loop-less : tie.Need-loop-less Inv-loop μ-loop
 loop-less c = search needs
 
 loop-again : tie.Need-loop-again Inv-loop μ-loop
-loop-again c = (search (needs, new-more), search (needs, row-of-line))
+loop-again c = (search (needs, new-more), search (needs, roster-of-line))
 
 loop-less-2 : tie.Need-loop-less-2 Inv-loop μ-loop
 loop-less-2 c = search needs

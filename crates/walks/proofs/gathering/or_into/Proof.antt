@@ -8,10 +8,10 @@ use Rattle.walks.proofs.gathering.or_into.Statement.{statement}
 use Rattle.walks.proofs.gathering.or_into.Tie as tie
 
 abbrev Inv-loop : tie.InvT-loop
-Inv-loop row any₀ m₀ any m = Mixing 32 (orAt any₀ row) any₀ m any
+Inv-loop roster any₀ m₀ any m = Mixing 32 (orAt any₀ roster) any₀ m any
 
 abbrev μ-loop : tie.MeasureT-loop
-μ-loop row any₀ m₀ any m = 32 - m
+μ-loop roster any₀ m₀ any m = 32 - m
 
 loop-holds : tie.Need-loop-holds Inv-loop μ-loop
 loop-holds c = search (needs, or-start)

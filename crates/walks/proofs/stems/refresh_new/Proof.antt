@@ -1,6 +1,6 @@
 -- `stems::refresh_new` meets its contract.
 use borrow.Author.Needs.{needs}
-use Rattle.walks.proofs.Gatherings.{row-halved, line-halved}
+use Rattle.walks.proofs.Gatherings.{roster-halved, line-halved}
 use Rattle.walks.proofs.stems.refresh_new.Statement.{statement}
 use Rattle.walks.proofs.stems.refresh_new.Tie as tie
 
@@ -23,7 +23,7 @@ same-length : tie.Need-same-length
 same-length c = search needs
 
 returns : tie.Need-returns
-returns c = (search (needs, row-halved), search (needs, line-halved))
+returns c = (search (needs, roster-halved), search (needs, line-halved))
 
 pub refresh-new-spec : {M : Type 1} → statement M
 refresh-new-spec =

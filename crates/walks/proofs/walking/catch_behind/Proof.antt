@@ -49,8 +49,8 @@ part-pairs-start c = search needs
 part-pairs-end : tie.Need-part-pairs-end
 part-pairs-end c = search needs
 
-judge-places-requires : tie.Need-judge-places-requires
-judge-places-requires c κs = search needs
+judge-lines-requires : tie.Need-judge-lines-requires
+judge-lines-requires c κs = search needs
 
 returns : tie.Need-returns
 returns c = search (needs, behind-judged)
@@ -74,5 +74,5 @@ catch-behind-spec =
     sub-pairs
     part-pairs-start
     part-pairs-end
-    judge-places-requires
+    judge-lines-requires
     returns)

@@ -1,4 +1,4 @@
--- `walking::catch_together` meets its contract: the rows that are picked are judged.
+-- `walking::catch_together` meets its contract: the rosters that are picked are judged.
 use borrow.Author.Needs.{needs}
 use Rattle.walks.proofs.Walkings.{picked-size, stem-old-size, stem-new-size, together-judged}
 use Rattle.walks.proofs.walking.catch_together.Statement.{statement}

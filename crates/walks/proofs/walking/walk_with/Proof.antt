@@ -2,8 +2,8 @@
 use borrow.Author.Needs.{needs}
 use mathlib.Core.Path.{refl}
 use Prim.Native.Nat.{_-_}
-use Rattle.grants.proofs.Granting.{row-size}
-use Rattle.walks.proofs.Gatherings.{row-of-none}
+use Rattle.grants.proofs.Granting.{roster-size}
+use Rattle.walks.proofs.Gatherings.{roster-of-none}
 use Rattle.walks.proofs.Walkings.{Ahead, ahead-start, ahead-past, ahead-found, ahead-on, ahead-end, at-stem, of-other-sort}
 use Rattle.walks.proofs.walking.walk_with.Statement.{statement}
 use Rattle.walks.proofs.walking.walk_with.Tie as tie
@@ -21,7 +21,7 @@ add-count-2 : tie.Need-add-count-2 Inv-loop μ-loop
 add-count-2 c = search needs
 
 loop-holds : tie.Need-loop-holds Inv-loop μ-loop
-loop-holds c = search (needs, ahead-start, row-of-none)
+loop-holds c = search (needs, ahead-start, roster-of-none)
 
 add-next : tie.Need-add-next Inv-loop μ-loop
 add-next c = search needs
@@ -36,22 +36,22 @@ loop-again : tie.Need-loop-again Inv-loop μ-loop
 loop-again c = search (needs, ahead-past)
 
 slice-aggregate-refresh-old : tie.Need-slice-aggregate-refresh-old Inv-loop μ-loop
-slice-aggregate-refresh-old c = search (needs, row-size)
+slice-aggregate-refresh-old c = search (needs, roster-size)
 
 refresh-old-requires : tie.Need-refresh-old-requires Inv-loop μ-loop
 refresh-old-requires c κs = search needs
 
 slice-aggregate-refresh-new : tie.Need-slice-aggregate-refresh-new Inv-loop μ-loop
-slice-aggregate-refresh-new c = search (needs, row-size)
+slice-aggregate-refresh-new c = search (needs, roster-size)
 
 refresh-new-requires : tie.Need-refresh-new-requires Inv-loop μ-loop
 refresh-new-requires c κs = ((search needs, search needs), search needs)
 
 slice-aggregate-try-stem : tie.Need-slice-aggregate-try-stem Inv-loop μ-loop
-slice-aggregate-try-stem c = search (needs, row-size)
+slice-aggregate-try-stem c = search (needs, roster-size)
 
 slice-aggregate-try-stem-2 : tie.Need-slice-aggregate-try-stem-2 Inv-loop μ-loop
-slice-aggregate-try-stem-2 c = search (needs, row-size)
+slice-aggregate-try-stem-2 c = search (needs, roster-size)
 
 try-stem-requires : tie.Need-try-stem-requires Inv-loop μ-loop
 try-stem-requires c κs = (((search needs, search (needs, at-stem)), search needs), search (needs, of-other-sort))

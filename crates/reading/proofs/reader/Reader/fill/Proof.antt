@@ -1,4 +1,4 @@
--- `reader::Reader::fill` meets its contract: a walk of its MIR, by hand. The struct is taken apart, and `fill_from` is called on the text, the place and the work table. All that the proof knows of `fill_from` is that it meets its contract.
+-- `reader::Reader::fill` meets its contract: a walk of its MIR, by hand. The struct is taken apart, and `fill_from` is called on the text, the offset and the work table. All that the proof knows of `fill_from` is that it meets its contract.
 -- The struct is Copy: what it owns is had twice, and one copy is kept whole for the exit. The table is given up to the callee for good, at its own lifetime, share and name: what the callee says of its last numbers is what is said here.
 use mathlib.Core.Path.{_≡_, refl}
 use Prim.Native.Nat.{ℕ, _<_, _^_}
