@@ -1,22 +1,24 @@
-/* calls WHAT WHO TIMES [SIZE]: one call TIMES times, for counting instructions. WHAT is a call and an input: read-L, compare-large2. WHO is proved,
- * plain (the yardstick in C), walk (the yardstick that walks through all trial paths) or scalar (the same without vectors). Prints what the last call
- * answered; with SIZE, for the inputs that grow, first how large it is. */
+/* calls WHAT WHO TIMES [SIZE]: one call TIMES times, for counting instructions. WHAT is a call and an input: read-L, compare-large2, xml-full. WHO is
+ * proved, plain (the yardstick in C; of web.xml the second implementation), walk (the yardstick that walks through all trial paths) or scalar (the same
+ * without vectors). Prints what the last call answered; with SIZE, for the inputs that grow, and for a web.xml, first how large it is. */
 #include <stdint.h>
 #include <stdio.h>
 #include <stdlib.h>
 #include <string.h>
 #include "../include/budquarry.h"
+#include "../second/second.h"
 #include "../second/yardstick.h"
 #include "grown.h"
 #include "hostile.h"
 #include "inputs.h"
+#include "xml.h"
 
 /* yardstick.c with YARDSTICK_WALK */
 typedef struct yardstick_comparison compare(const uint8_t *, size_t, const uint8_t *, size_t, uint8_t *, size_t, uint32_t *, size_t);
 compare walk_compare, scalar_compare;
 
 static uint32_t work[BUDQUARRY_WORK];
-static uint8_t answer[BUDQUARRY_ANSWER], old_room[GENERATED_LISTING], new_room[GENERATED_LISTING];
+static uint8_t answer[BUDQUARRY_ANSWER], listing[BUDQUARRY_LISTING], old_room[GENERATED_LISTING], new_room[GENERATED_LISTING];
 static struct generated large;
 static const uint8_t *old, *new;
 static size_t old_len, new_len;
@@ -74,6 +76,20 @@ static unsigned long choose(const char *what, unsigned size) {
     return 0;
 }
 
+/* Reads the web.xml so many times, and prints how large it is, what was handed back and the listing. */
+static void from_web_xml(const char *who, int times) {
+    struct budquarry_written w = {0, 0, 0, 0};
+    for (; times > 0; times--) {
+        if (!strcmp(who, "proved")) {
+            w = budquarry_from_web_xml((const uint8_t *)xml_room, xml_len, listing, sizeof listing, work, BUDQUARRY_WORK);
+        } else {
+            struct second_written s = second_from_web_xml((const uint8_t *)xml_room, xml_len, listing, sizeof listing, work, BUDQUARRY_WORK);
+            w = (struct budquarry_written){s.number, s.side, s.line, s.length};
+        }
+    }
+    printf("%zu\nnumber %u line %u length %zu\n%.*s", xml_len, (unsigned)w.number, (unsigned)w.line, w.length, w.number ? 0 : (int)w.length, (char *)listing);
+}
+
 /* One call; gives its number and its answer, or the answer's length. */
 static uint64_t call(char which, const char *who) {
     size_t p = strlen(path), m = strlen(method), r = strlen(names);
@@ -101,6 +117,7 @@ static uint64_t call(char which, const char *who) {
 int main(int argc, char **argv) {
     const char *what = argc < 4 ? NULL : strchr(argv[1], '-');
     if (!what) return 2;
+    if (argv[1][0] == 'x') return xml_make(what + 1) ? from_web_xml(argv[2], atoi(argv[3])), 0 : 2;
     unsigned long size = choose(what + 1, argc > 4 ? (unsigned)atoi(argv[4]) : 0);
     if (!old) return 2;
     uint64_t said = 0;

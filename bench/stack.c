@@ -4,13 +4,16 @@
 #include <stdio.h>
 #include <string.h>
 #include "../include/budquarry.h"
+#include "../second/generate_xml.h"
 #include "inputs.h"
+#include "xml.h"
 
 enum { ROOM = 65536, SEEDS = 2000 };
 static uint8_t area[ROOM] __attribute__((aligned(4096)));
 static uint32_t work[BUDQUARRY_WORK];
 static uint8_t answer[GENERATED_LISTING];
 static struct generated g;
+static struct generated_xml f;
 
 static void run_read(void) { budquarry_read(g.listing, g.listing_len, work, g.work_len); }
 
@@ -22,13 +25,19 @@ static void run_compare(void) {
     budquarry_compare(g.listing, g.listing_len, g.new_listing, g.new_len, answer, g.answer_len, work, g.work_len);
 }
 
+static void run_web_xml(void) { budquarry_from_web_xml(f.xml, f.xml_len, answer, f.room, work, f.work_len); }
+
 static struct {
     const char *name;
     void (*run)(void);
     size_t limit, most;
     unsigned inputs, worst; /* how many there were, and how many of them took the most */
     char first[160];        /* of those */
-} calls[] = {{"read", run_read, 8192, 0, 0, 0, ""}, {"decide", run_decide, 8192, 0, 0, 0, ""}, {"compare", run_compare, 6144, 0, 0, 0, ""}};
+} calls[] = {{"read", run_read, 8192, 0, 0, 0, ""},
+             {"decide", run_decide, 8192, 0, 0, 0, ""},
+             {"compare", run_compare, 6144, 0, 0, 0, ""},
+             {"web.xml", run_web_xml, 8192, 0, 0, 0, ""}};
+enum { WEB_XML = 3, CALLS = 4 };
 static void (*task)(void);
 static int all;
 
@@ -42,7 +51,7 @@ static void on_area(void) {
                        "xmm4", "xmm5", "xmm6", "xmm7", "xmm8", "xmm9", "xmm10", "xmm11", "xmm12", "xmm13", "xmm14", "xmm15");
 }
 
-/* One call on what g holds. */
+/* One call on what g or f holds. */
 static void measure(int which, const char *input) {
     memset(area, 0xA5, sizeof area);
     task = calls[which].run;
@@ -122,6 +131,78 @@ static void longest_shown(void) {
     g.new_len = (size_t)sprintf((char *)g.new_listing, "constraints\t1\nconstraint\topen\ncollection\npattern\t/%s/*\nend\n", p);
 }
 
+/* An element of depth 8 in a web.xml: what it can hold, and what it can be refused for. */
+static const struct {
+    const char *name, *element;
+} deep[] = {
+    {"an empty element", "<a/>"},
+    {"text", "<a>The offset</a>"},
+    {"an entity", "<a>&apos;</a>"},
+    {"a comment", "<a><!-- The offset --></a>"},
+    {"attributes", "<a b='&apos;' c = \"d\" />"},
+    {"a second element", "<a></a><a></a>"},
+    {"a refused element", "<user-data-constraint>"},
+    {"a bad reference", "<a>&#38;</a>"},
+    {"a bad end tag", "<a></b>"},
+    {"an element with one in it", "<a><b/></a>"},
+};
+
+/* What it stands in: elements that are passed over, below the root and below what is wanted there. */
+static const struct {
+    const char *name, *start, *end;
+} below[] = {
+    {"the root", "<a><a><a><a><a><a>", "</a></a></a></a></a></a>"},
+    {"a collection", "<security-constraint><web-resource-collection><url-pattern>/</url-pattern><a><a><a><a>",
+     "</a></a></a></a></web-resource-collection></security-constraint>"},
+    {"a role", "<security-role><role-name>a</role-name><a><a><a><a><a>", "</a></a></a></a></a></security-role>"},
+};
+
+/* A web.xml, in buffers that are large enough. */
+static void measure_file(const void *xml, size_t length, const char *input) {
+    put(f.xml, &f.xml_len, xml, length);
+    f.room = BUDQUARRY_LISTING;
+    f.work_len = BUDQUARRY_WORK;
+    measure(WEB_XML, input);
+}
+
+/* Each of these, whole and cut off behind that element. */
+static void deep_files(void) {
+    char xml[500], input[160];
+    for (size_t i = 0; i < sizeof below / sizeof *below; i++)
+        for (size_t k = 0; k < sizeof deep / sizeof *deep; k++) {
+            size_t cut = (size_t)sprintf(xml, "<web-app>%s%s", below[i].start, deep[k].element);
+            size_t whole = cut + (size_t)sprintf(xml + cut, "%s</web-app>", below[i].end);
+            snprintf(input, sizeof input, "%s at depth 8 below %s", deep[k].name, below[i].name);
+            measure_file(xml, whole, input);
+            snprintf(input, sizeof input, "%s at depth 8 below %s, cut off", deep[k].name, below[i].name);
+            measure_file(xml, cut, input);
+        }
+}
+
+/* bench/xml.h's files, the last of them in short buffers too; the deep ones; the generator's. */
+static void web_xml(void) {
+    char input[80];
+    for (int i = 0; i < XML_FILES; i++) {
+        xml_make(xml_files[i].name);
+        snprintf(input, sizeof input, "the web.xml `%s`", xml_files[i].name);
+        measure_file(xml_room, xml_len, input);
+    }
+    f.room = 0;
+    measure(WEB_XML, "no room for the listing, refused");
+    f.work_len--;
+    measure(WEB_XML, "too short a work table, refused");
+    deep_files();
+    for (uint64_t seed = 1; seed <= SEEDS; seed++) {
+        int shown = all;
+        generate_xml_case(seed, &f);
+        if (f.work_len > BUDQUARRY_WORK) f.work_len = BUDQUARRY_WORK;
+        all = 0;
+        snprintf(input, sizeof input, "the generator's web.xml %u", (unsigned)seed);
+        measure(WEB_XML, input);
+        all = shown;
+    }
+}
+
 int main(int argc, char **argv) {
     static const char bare[] = "constraints\t1\nend\n", closed[] = "constraints\t1\nconstraint\tauth\ncollection\npattern\t/*\nend\n";
     char input[80];
@@ -165,9 +246,10 @@ int main(int argc, char **argv) {
         measure(g.kind == GENERATED_READ ? 0 : g.kind == GENERATED_DECIDE ? 1 : 2, input);
         all = shown;
     }
+    web_xml();
 
     int over = 0;
-    for (int i = 0; i < 3; i++) {
+    for (int i = 0; i < CALLS; i++) {
         printf("stack %-8s %5zu bytes (under %zu) on %u of %u inputs, the first: %s\n", calls[i].name, calls[i].most, calls[i].limit, calls[i].worst,
                calls[i].inputs, calls[i].first);
         over |= calls[i].most >= calls[i].limit;

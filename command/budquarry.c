@@ -16,13 +16,15 @@ enum { GOOD = 0, BAD = 1, FAILED = 2 };
 
 static const char usage[] =
     "usage: budquarry compare [--all] [--accept FILE] OLD NEW\n"
-    "       budquarry decide LISTING METHOD PATH [--login] [--role NAME]..\n"
-    "       budquarry check LISTING\n"
+    "       budquarry decide RULES METHOD PATH [--login] [--role NAME]..\n"
+    "       budquarry check RULES\n"
+    "       budquarry from-web-xml FILE\n"
     "       budquarry --help | --version\n"
     "\n"
-    "compare  may anyone do more under the listing NEW than under OLD?\n"
-    "decide   may this caller do this? (--role implies --login)\n"
-    "check    is the listing well formed, and probably as meant?\n"
+    "compare       may anyone do more under the rules NEW than under OLD?\n"
+    "decide        may this caller do this? (--role implies --login)\n"
+    "check         are the rules well formed, and probably as meant?\n"
+    "from-web-xml  writes the rules of a web.xml as a listing\n"
     "\n"
     "--all          compare lists all that is wider: where, which methods, for whom\n"
     "--accept FILE  compare passes over what is in FILE, in lines as --all writes them\n"
@@ -31,10 +33,11 @@ static const char usage[] =
     "--quiet        no words on standard error\n"
     "--             ends the options\n"
     "\n"
-    "A listing is a file, or - for standard input. Standard output is the verdict,\n"
-    "the answer, accepted, or refused<tab>NUMBER<tab>SIDE<tab>LINE. Exit status: 0 no\n"
-    "wider, accepted or granted; 1 wider, denied, or warned with --strict; 2 refused,\n"
-    "or a file or the command line is at fault.\n";
+    "OLD, NEW and RULES are each a web.xml or a listing, told apart by the first bytes;\n"
+    "- is standard input. Standard output is the verdict, the answer, accepted, the\n"
+    "listing, or refused<tab>NUMBER<tab>SIDE<tab>LINE. Exit status: 0 no wider, accepted,\n"
+    "granted, or a listing; 1 wider, denied, or warned with --strict; 2 refused, or a\n"
+    "file or the command line is at fault.\n";
 static const char version[] = "budquarry " BUDQUARRY_VERSION "\n";
 
 /* A role name has at most 64 bytes and a caller 32 of them. One byte and one name more are kept, so that a longer name and a caller with
@@ -62,7 +65,7 @@ static int misused(const char *why, const char *what) {
 
 static int refused(uint32_t number, uint32_t side, uint32_t line) {
     struct refusal refusal = {.number = number, .side = side, .line = line, .listing = side == 2 ? &second : &first};
-    refusal.which = side == 2 ? "new listing" : command.operands == 3 ? "old listing" : "listing";
+    refusal.which = side == 2 ? "new " : command.operands == 3 ? "old " : "";
     refusal.method = command.operand[2];
     refusal.path = command.operand[3];
     refusal.roles = (struct text){command.name, command.names_len};
@@ -102,12 +105,32 @@ static void close_named(const char *name, int file) {
     if (strcmp(name, "-")) close(file);
 }
 
-static int load(struct listing *listing, const char *name) {
+/* The file's bytes, taken for a web.xml. */
+static int load_xml(struct listing *listing, const char *name) {
     int file = open_named(name);
     listing->name = name;
-    if (file < 0 || !read_on(file, listing->bytes, sizeof listing->bytes, &listing->len)) return unreadable(name);
+    listing->is_xml = 1;
+    if (file < 0 || !read_on(file, listing->xml, sizeof listing->xml, &listing->xml_len)) return unreadable(name);
     close_named(name, file);
     return 1;
+}
+
+/* A web.xml or a listing, by its first bytes. */
+static int load(struct listing *listing, const char *name) {
+    if (!load_xml(listing, name)) return 0;
+    listing->is_xml = looks_like_xml(file_of(listing));
+    if (listing->is_xml) return 1;
+    listing->len = listing->xml_len < sizeof listing->bytes ? listing->xml_len : sizeof listing->bytes;
+    memcpy(listing->bytes, listing->xml, listing->len);
+    return 1;
+}
+
+/* Writes the listing that a web.xml means; a listing stays as it is. */
+static struct budquarry_report make_listing(struct listing *l) {
+    if (!l->is_xml) return (struct budquarry_report){0, 0, 0};
+    struct budquarry_written w = budquarry_from_web_xml(l->xml, l->xml_len, l->bytes, BUDQUARRY_LISTING, work, BUDQUARRY_WORK);
+    l->len = w.length;
+    return (struct budquarry_report){w.number, w.side, w.line};
 }
 
 /* A file of any length. */
@@ -137,7 +160,8 @@ static void write_warning(const struct listing *listing, const struct warning *w
 
 static int check(void) {
     if (!load(&first, command.operand[1])) return FAILED;
-    struct budquarry_report r = budquarry_read(first.bytes, first.len, work, BUDQUARRY_WORK);
+    struct budquarry_report r = make_listing(&first);
+    if (!r.number) r = budquarry_read(first.bytes, first.len, work, BUDQUARRY_WORK);
     if (r.number) return refused(r.number, r.side, r.line);
     if (command.json) {
         fputs("{\"command\":\"check\"", stdout);
@@ -150,6 +174,22 @@ static int check(void) {
     }
     if (!handed_over()) return FAILED;
     return warn(&first, command.quiet ? count_warning : say_warning) && command.strict ? BAD : GOOD;
+}
+
+static int from_web_xml(void) {
+    if (!load_xml(&first, command.operand[1])) return FAILED;
+    struct budquarry_report r = make_listing(&first);
+    if (r.number) return refused(r.number, r.side, r.line);
+    struct text listing = {first.bytes, first.len};
+    if (command.json) {
+        fputs("{\"command\":\"from-web-xml\"", stdout);
+        json_member(stdout, "web_xml", text_of(first.name));
+        json_member(stdout, "written", listing);
+        fputs("}\n", stdout);
+    } else {
+        show_answer(stdout, listing);
+    }
+    return handed_over() ? GOOD : FAILED;
 }
 
 static void write_decision(const char *answer, int granted) {
@@ -167,6 +207,8 @@ static int decide(void) {
     static const char *const answers[] = {"", "open", "by role", "closed", "login wanted", "role lacking"};
     const char *method = command.operand[2], *path = command.operand[3];
     if (!load(&first, command.operand[1])) return FAILED;
+    struct budquarry_report r = make_listing(&first);
+    if (r.number) return refused(r.number, r.side, r.line);
     struct budquarry_decision d = budquarry_decide(first.bytes, first.len, (const uint8_t *)path, strlen(path), (const uint8_t *)method,
                                                    strlen(method), command.login, command.name, command.names_len, work, BUDQUARRY_WORK);
     if (d.number) return refused(d.number, d.side, d.line);
@@ -180,6 +222,14 @@ static int decide(void) {
     return granted ? GOOD : BAD;
 }
 
+/* Writes both listings. All refusals of the old file come before those of the new one. */
+static int make_both(void) {
+    struct budquarry_report old = make_listing(&first), new = make_listing(&second);
+    if (!old.number && new.number) old = budquarry_read(first.bytes, first.len, work, BUDQUARRY_WORK);
+    if (old.number) return refused(old.number, 1, old.line);
+    return new.number ? refused(new.number, 2, new.line) : GOOD;
+}
+
 static int compare(void) {
     static uint8_t answer[BUDQUARRY_ANSWER];
     static struct acceptance acceptance, *accepting;
@@ -191,6 +241,7 @@ static int compare(void) {
         acceptance.name = strcmp(command.accept, "-") ? command.accept : "standard input";
         if (!load_all(&acceptance.bytes, command.accept) || !cut_acceptance(accepting)) return FAILED;
     }
+    if (make_both()) return FAILED;
     struct budquarry_comparison c =
         budquarry_compare(first.bytes, first.len, second.bytes, second.len, answer, sizeof answer, work, BUDQUARRY_WORK);
     if (c.number) return refused(c.number, c.side, c.line);
@@ -243,17 +294,19 @@ static int told(const char *text) {
     return handed_over();
 }
 
+static int is_of_one_file(const char *verb) { return !strcmp(verb, "check") || !strcmp(verb, "from-web-xml"); }
+
 /* Whether it is asked how to call the command: alone, or behind a verb and nothing else. */
 static int asks_help(int argc, char **argv) {
     const char *last = argc > 1 ? argv[argc - 1] : "";
     if (argc == 2 && !strcmp(last, "help")) return 1;
-    if (argc == 3 && strcmp(argv[1], "compare") && strcmp(argv[1], "decide") && strcmp(argv[1], "check")) return 0;
+    if (argc == 3 && strcmp(argv[1], "compare") && strcmp(argv[1], "decide") && !is_of_one_file(argv[1])) return 0;
     return argc <= 3 && (!strcmp(last, "--help") || !strcmp(last, "-h"));
 }
 
-/* A status of 0 must not come of a listing's name that looks like an option: so `check --help` has none. */
+/* A status of 0 must not come of a file's name that looks like an option: so `check --help` has none. */
 static int help(int argc, char **argv) {
-    int good = argc == 2 || strcmp(argv[1], "check");
+    int good = argc == 2 || !is_of_one_file(argv[1]);
     return told(usage) && good ? GOOD : FAILED;
 }
 
@@ -261,7 +314,7 @@ static int run(int argc, char **argv) {
     static const struct verb {
         const char *name;
         int operands, asks_caller, (*run)(void);
-    } verbs[] = {{"compare", 3, 0, compare}, {"decide", 4, 1, decide}, {"check", 2, 0, check}};
+    } verbs[] = {{"compare", 3, 0, compare}, {"decide", 4, 1, decide}, {"check", 2, 0, check}, {"from-web-xml", 2, 0, from_web_xml}};
     if (asks_help(argc, argv)) return help(argc, argv);
     if (argc == 2 && !strcmp(argv[1], "--version")) return told(version) ? GOOD : FAILED;
     if (read_arguments(argc, argv)) return FAILED;
@@ -270,7 +323,7 @@ static int run(int argc, char **argv) {
         if (strcmp(command.operand[0], verbs[i].name)) continue;
         if (command.operands != verbs[i].operands) return misused("wrong number of arguments for ", verbs[i].name);
         if (command.login && !verbs[i].asks_caller) return misused("--login and --role are for decide, not for ", verbs[i].name);
-        if (command.strict && verbs[i].run == compare) return misused("--strict is for check and decide, not for ", verbs[i].name);
+        if (command.strict && verbs[i].run != check && verbs[i].run != decide) return misused("--strict is for check and decide, not for ", verbs[i].name);
         if (command.accept && verbs[i].run != compare) return misused("--accept is for compare, not for ", verbs[i].name);
         if (command.all && verbs[i].run != compare) return misused("--all is for compare, not for ", verbs[i].name);
         return verbs[i].run();

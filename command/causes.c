@@ -1,8 +1,9 @@
 /* causes.c: see causes.h. A function that looks for one cause says it and returns 1, or returns 0. */
 #include <string.h>
 #include "causes.h"
+#include "webxml.h"
 
-enum { LONGEST_WORD = 24 };
+enum { LONGEST_WORD = 32 };
 
 /* ---- a word that is nearly another */
 
@@ -67,17 +68,17 @@ static struct text first_word(struct text t) {
     return (struct text){t.at, n};
 }
 
-/* Line n of a listing, and whether a line feed ends it; `none` if the listing ends before it. */
+/* Line n of a file, and whether a line feed ends it; `none` if the file ends before it. */
 struct place {
     struct text line;
     int ended, none;
 };
 static struct place line_at(const struct listing *l, uint32_t n) {
-    struct text rest = {l->bytes, l->len};
+    struct text file = file_of(l), rest = file;
     while (--n && rest.len) take_line(&rest);
     struct place p = {.none = !rest.len};
     p.line = take_line(&rest);
-    p.ended = p.line.at + p.line.len < l->bytes + l->len;
+    p.ended = p.line.at + p.line.len < file.at + file.len;
     return p;
 }
 
@@ -112,7 +113,7 @@ static int spaces_at_end(struct words *w, struct text t, const char *what) {
     return 1;
 }
 
-static int control_byte(struct words *w, struct text t, const char *what) {
+int control_byte(struct words *w, struct text t, const char *what) {
     static const char digits[] = "0123456789abcdef";
     for (size_t i = 0; i < t.len; i++) {
         if (t.at[i] >= 32 && t.at[i] != 127) continue;
@@ -131,18 +132,18 @@ static int too_long(struct words *w, struct text t, size_t most, const char *wha
 
 /* ---- the file as a whole */
 
+int utf16(struct words *w, struct text file) {
+    const uint8_t *b = file.at;
+    if (file.len < 2 || !((b[0] == 0xff && b[1] == 0xfe) || (b[0] == 0xfe && b[1] == 0xff) || !b[0] != !b[1])) return 0;
+    say(w, "this is UTF-16 text, as some Windows programs save it. Save the file again as UTF-8, without a byte order mark.");
+    return 1;
+}
+
 static int wrong_file(struct words *w, const struct listing *l) {
-    struct text all = {l->bytes, l->len}, start = all;
-    if (starts_with(start, "\xef\xbb\xbf")) start = behind(start, 3);
-    while (start.len && (is_blank(start.at[0]) || start.at[0] == '\r' || start.at[0] == '\n')) start = behind(start, 1);
-    int wide = all.len >= 2 && ((all.at[0] == 0xff && all.at[1] == 0xfe) || (all.at[0] == 0xfe && all.at[1] == 0xff) || !all.at[0] != !all.at[1]);
+    struct text all = {l->bytes, l->len};
     if (!all.len)
         say(w, "the file is empty. A listing starts with the line constraints<tab>1.");
-    else if (wide)
-        say(w, "this is UTF-16 text, as some Windows programs save it. Save the file again as UTF-8, without a byte order mark.");
-    else if (starts_with(start, "<"))
-        say(w, "this is an XML file, and no listing. Its rules must be written as a listing: the man page shows how, under LISTINGS.");
-    else if (starts_with(all, "\xef\xbb\xbf"))
+    else if (!utf16(w, all) && starts_with(all, "\xef\xbb\xbf"))
         say(w, "the file starts with a byte order mark, three bytes that no editor shows. Save it again as UTF-8 without a byte order mark.");
     return w->len > 0;
 }
@@ -172,7 +173,7 @@ static void bad_first_line(struct words *w, const struct listing *l) {
     else if (meant(word, names, 1))
         say(w, "the first line must be exactly constraints<tab>1, and not %t.", &p.line);
     else
-        say(w, "a listing starts with the line constraints<tab>1, and this file does not. Is it the right file?");
+        say(w, "a listing starts with the line constraints<tab>1, a web.xml with <, and this file with neither. Is it the right file?");
 }
 
 /* ---- a line's form */
@@ -280,7 +281,7 @@ static void wrong_place(struct words *w, const struct listing *l, uint32_t line)
 
 /* ---- names and patterns */
 
-static void bad_role(struct words *w, struct text name) {
+void bad_role(struct words *w, struct text name) {
     if (!name.len)
         say(w, "the name is empty. Write it behind the tab.");
     else if (same(name, text_of("*")))
@@ -303,7 +304,7 @@ int is_method(struct text t) {
     return t.len && t.len <= 24 && i == t.len;
 }
 
-static void bad_method(struct words *w, struct text name) {
+void bad_method(struct words *w, struct text name) {
     size_t i = 0;
     if (!name.len) {
         say(w, "the method is empty. Write one, like GET.");
@@ -353,12 +354,12 @@ static void bad_ending(struct words *w, struct text ending) {
         say(w, "an ending has no / in it: *.csv fits such paths at every place. For all below one place write /place/*.");
     else if (count_byte(ending, '*'))
         say(w, "an ending has no second *: write it out, as in *.csv.");
-    else
+    else if (count_byte(ending, '.'))
         say(w, "an ending has no second dot: only what follows a path's last dot counts. *.%t fits these paths, and others that end in .%t.", &last, &last);
 }
 
-static void bad_pattern(struct words *w, struct text p) {
-    if (windows_end(w, p) || spaces_at_end(w, p, "the pattern") || control_byte(w, p, "the pattern") || too_long(w, p, 255, "a pattern")) return;
+void bad_pattern(struct words *w, struct text p) {
+    if (!p.len || windows_end(w, p) || spaces_at_end(w, p, "the pattern") || control_byte(w, p, "the pattern") || too_long(w, p, 255, "a pattern")) return;
     struct text more = behind(p, 1);
     if (count_byte(p, ';'))
         say(w, "a pattern can't hold a ;. What stands from a ; on in a path is a parameter, and is left out before the path is matched. Take it out of the pattern.");
@@ -372,7 +373,7 @@ static void bad_pattern(struct words *w, struct text p) {
         say(w, "a pattern is a path alone, without http:// and the machine's name. Write it from its / on.");
     else if (starts_with(p, " "))
         say(w, "the pattern starts with a space. Take it out.");
-    else
+    else if (!starts_with(p, "/"))
         say(w, "a pattern starts with / or with *. and an ending. Did you mean /%t?", &p);
 }
 
@@ -433,7 +434,7 @@ static void bad_path(struct words *w, const struct refusal *r) {
     else if (starts_with(path, "http://") || starts_with(path, "https://"))
         say(w, "a path is wanted, without http:// and the machine's name. Write it from its / on.");
     else if (path.at[0] != '/' && r->method[0] == '/')
-        say(w, "a path starts with /. The method comes before the path: budquarry decide LISTING METHOD PATH.");
+        say(w, "a path starts with /. The method comes before the path: budquarry decide RULES METHOD PATH.");
     else if (path.at[0] != '/')
         say(w, "a path starts with /. Did you mean /%t?", &path);
     else
@@ -458,7 +459,7 @@ static void bad_caller(struct words *w, struct text roles) {
 
 /* ---- all of them */
 
-void explain(struct words *w, const struct refusal *r) {
+static void explain_listing(struct words *w, const struct refusal *r) {
     struct place p = r->line ? line_at(r->listing, r->line) : (struct place){.none = 1};
     switch (r->number) {
     case BUDQUARRY_LONG_LISTING: long_listing(w, r->listing); break;
@@ -474,10 +475,25 @@ void explain(struct words *w, const struct refusal *r) {
     case BUDQUARRY_BAD_METHOD: bad_method(w, text_of(r->method)); break;
     case BUDQUARRY_BAD_CALLER: bad_caller(w, r->roles); break;
     }
+}
+
+void explain(struct words *w, const struct refusal *r) {
+    if (r->side && r->listing->is_xml)
+        explain_web_xml(w, r);
+    else
+        explain_listing(w, r);
     if (!w->len) say(w, "rule %u is broken, and this command can't tell how: please report it.", r->number);
 }
 
 const char *shown_name(const struct listing *listing) { return strcmp(listing->name, "-") ? listing->name : "standard input"; }
+
+/* A listing's line as it is; XML's without the white space round it, which means nothing there. */
+static void show_line_of(const struct refusal *r) {
+    struct place p = line_at(r->listing, r->line);
+    if (p.none) return;
+    if (r->listing->is_xml && ends_with(p.line, "\r")) p.line.len--;
+    show_line(stderr, r->listing->is_xml ? without_blanks(p.line) : p.line);
+}
 
 void say_refusal(const struct refusal *r) {
     struct words w = {.len = 0};
@@ -485,11 +501,11 @@ void say_refusal(const struct refusal *r) {
     if (r->side) {
         show_string(stderr, shown_name(r->listing));
         if (r->line) fprintf(stderr, ":%u", r->line);
-        fprintf(stderr, ": the %s is refused: ", r->which);
+        fprintf(stderr, ": the %s%s is refused: ", r->which, kind_of_file(r->listing));
     } else {
         fputs("refused: ", stderr);
     }
     show(stderr, said(&w));
     putc('\n', stderr);
-    if (r->line && !line_at(r->listing, r->line).none) show_line(stderr, line_at(r->listing, r->line).line);
+    if (r->line) show_line_of(r);
 }

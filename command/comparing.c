@@ -114,9 +114,9 @@ static void write_lines(const struct comparing *c, const char *verdict, const st
 static void say_comparison(const struct comparing *c, const struct request *shown, const struct summary *s) {
     const char *accepting = c->accepting ? c->accepting->name : NULL;
     if (!shown) {
-        say_no_wider();
+        say_no_wider(c->old, c->new);
     } else if (accepting && !s->paths) {
-        say_accepted(accepting);
+        say_accepted(&trials, accepting);
     } else if (c->all || accepting) {
         say_all(&trials, s, accepting);
     } else {

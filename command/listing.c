@@ -14,6 +14,16 @@ int starts_with(struct text t, const char *start) { return t.len >= strlen(start
 
 int ends_with(struct text t, const char *end) { return t.len >= strlen(end) && !memcmp(t.at + t.len - strlen(end), end, strlen(end)); }
 
+int looks_like_xml(struct text file) {
+    if (starts_with(file, "\xef\xbb\xbf")) file = behind(file, 3);
+    while (file.len && file.at[0] && strchr(" \t\r\n", file.at[0])) file = behind(file, 1);
+    return starts_with(file, "<");
+}
+
+struct text file_of(const struct listing *l) { return l->is_xml ? (struct text){l->xml, l->xml_len} : (struct text){l->bytes, l->len}; }
+
+const char *kind_of_file(const struct listing *l) { return l->is_xml ? "web.xml" : "listing"; }
+
 struct text take_line(struct text *rest) {
     const uint8_t *end = rest->len ? memchr(rest->at, '\n', rest->len) : NULL;
     struct text line = {rest->at, end ? (size_t)(end - rest->at) : rest->len};

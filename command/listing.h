@@ -1,5 +1,5 @@
-/* listing.h: a listing's file, cut into lines and records, and which of its patterns is best for a path. The verdict on a listing is the library's
- * alone: what is said here about records holds for a listing that budquarry_read accepts. */
+/* listing.h: a file of access rules, its listing cut into lines and records, and which of its patterns is best for a path. The verdict on a listing is the
+ * library's alone: what is said here about records holds for a listing that budquarry_read accepts. */
 #ifndef LISTING_H
 #define LISTING_H
 
@@ -13,10 +13,14 @@ struct text {
     size_t len;
 };
 
+/* The listing that a file is, or that a web.xml means. Both have room for one byte more than they may have, so that a longer file is seen to be longer. */
 struct listing {
     const char *name; /* the file's, or - */
     size_t len;
-    uint8_t bytes[BUDQUARRY_LISTING + 1]; /* one byte more than a listing may have, so that a longer file is seen to be longer */
+    uint8_t bytes[BUDQUARRY_LISTING + 1];
+    int is_xml; /* the file is a web.xml, with these bytes */
+    size_t xml_len;
+    uint8_t xml[BUDQUARRY_XML + 1];
 };
 
 struct text text_of(const char *s);
@@ -24,6 +28,12 @@ struct text behind(struct text t, size_t skipped);
 int same(struct text a, struct text b);
 int starts_with(struct text t, const char *start);
 int ends_with(struct text t, const char *end);
+
+/* Whether a file's first bytes are those of XML: a byte order mark or none, white space, and then <. No listing starts so. */
+int looks_like_xml(struct text file);
+/* The file's own bytes, and what it is called: web.xml or listing. */
+struct text file_of(const struct listing *l);
+const char *kind_of_file(const struct listing *l);
 
 /* Takes the first line off a text; the line comes without its byte 10. */
 struct text take_line(struct text *rest);

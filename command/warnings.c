@@ -2,6 +2,7 @@
 #include <string.h>
 #include "causes.h"
 #include "warnings.h"
+#include "webxml.h"
 
 static int has_byte(struct text t, uint8_t b) { return t.len && memchr(t.at, b, t.len); }
 
@@ -36,9 +37,11 @@ static int stands_before(const struct listing *l, enum name name, struct text fi
 static const char *undeclared(struct words *w, const struct listing *l, struct record r, uint32_t line) {
     if (r.name != ALLOW || same(r.field, text_of("*")) || stands_before(l, ROLE, r.field, 0) || stands_before(l, ALLOW, r.field, line)) return NULL;
     const char *near = nearest_role(l, r.field);
-    say(w, "the role %t is allowed here and declared nowhere.", &r.field);
+    say(w, "the role %t is allowed%s and declared nowhere.", &r.field, l->is_xml ? "" : " here");
     if (near)
         say(w, " Did you mean %s?", near);
+    else if (l->is_xml)
+        say(w, " If there is such a role, declare it in a <security-role>.");
     else
         say(w, " If there is such a role, declare it at the top: role<tab>%t.", &r.field);
     return "undeclared role";
@@ -97,12 +100,24 @@ static const char *last_slash(struct words *w, struct record r) {
     return "last slash";
 }
 
+static size_t warn_elements(const struct listing *listing, void found(const struct listing *, const struct warning *)) {
+    static struct misspelt misspelt[MOST_MISSPELT];
+    size_t count = find_misspelt(listing, misspelt);
+    for (size_t i = 0; i < count; i++) {
+        struct warning warning = {.line = misspelt[i].line, .about = "misspelt element"};
+        say(&warning.words, "<%t> has no meaning here and is passed over, with all it holds. Did you mean <%s>?", &misspelt[i].name, misspelt[i].meant);
+        found(listing, &warning);
+    }
+    return count;
+}
+
 size_t warn(const struct listing *listing, void found(const struct listing *, const struct warning *)) {
     struct text rest = {listing->bytes, listing->len};
-    size_t count = 0;
+    size_t count = listing->is_xml ? warn_elements(listing, found) : 0;
     for (uint32_t line = 1; rest.len; line++) {
         struct record r = record_of(take_line(&rest));
-        struct warning warning = {.line = line};
+        struct warning warning = {.line = listing->is_xml ? 0 : line};
+        if (listing->is_xml && stands_before(listing, r.name, r.field, line)) continue; /* with no line to tell them apart, each is told once */
         warning.about = undeclared(&warning.words, listing, r, line);
         if (!warning.about) warning.about = small_letters(&warning.words, r);
         if (!warning.about) warning.about = no_wildcard(&warning.words, r);
@@ -127,7 +142,8 @@ size_t warn_path(struct text path, void found(const struct listing *, const stru
 void say_warning(const struct listing *listing, const struct warning *warning) {
     if (listing) {
         show_string(stderr, shown_name(listing));
-        fprintf(stderr, ":%u: ", warning->line);
+        if (warning->line) fprintf(stderr, ":%u", warning->line);
+        fputs(": ", stderr);
     }
     fputs("warning: ", stderr);
     show(stderr, said(&warning->words));

@@ -21,7 +21,12 @@ struct request shown_request(struct text answer) {
     return q;
 }
 
-void say_no_wider(void) { fputs("NO WIDER: nobody may do anything under the new listing that the old listing denies.\n", stderr); }
+void say_no_wider(const struct listing *old, const struct listing *new) {
+    fprintf(stderr, "NO WIDER: nobody may do anything under the new %s that the old %s denies.\n", kind_of_file(new), kind_of_file(old));
+}
+
+/* Where one is a listing, the other is taken for one too: a web.xml means one. */
+static int are_web_xml(const struct trials *t) { return t->old.listing->is_xml && t->new.listing->is_xml; }
 
 /* A method that people know and neither listing names. */
 static struct text example_method(const struct trials *t) {
@@ -39,7 +44,7 @@ static void say_method(struct words *w, const struct trials *t, struct text meth
         return;
     }
     if (t->filler_method > MOST_EXCEPTED)
-        say(w, "use every method that neither listing names");
+        say(w, "use every method that neither %s names", are_web_xml(t) ? "web.xml" : "listing");
     else
         say(w, "use every method");
     for (size_t m = 0; m < t->filler_method && t->filler_method <= MOST_EXCEPTED; m++)
@@ -47,11 +52,11 @@ static void say_method(struct words *w, const struct trials *t, struct text meth
     say(w, ", for example %t,", &example);
 }
 
-static void say_best(struct words *w, const struct map *map, size_t best, const char *where) {
+static void say_best(struct words *w, const struct map *map, size_t best) {
     if (best == map->patterns)
-        say(w, "none in %s", where);
+        say(w, "none");
     else
-        say(w, "%t in %s", &map->pattern[best].text, where);
+        say(w, "%t", &map->pattern[best].text);
 }
 
 /* 01 decides a path by its best patterns alone: a path that no listing writes out stands for those with the same best patterns, and for no others. */
@@ -65,13 +70,14 @@ static void say_path(struct words *w, const struct trials *t, struct text path) 
     }
     say(w, "every path like %t (closest pattern: ", &path);
     if (has_new && has_old && same(new->pattern[in_new].text, old->pattern[in_old].text)) {
-        say_best(w, new, in_new, "both listings");
+        say_best(w, new, in_new);
+        say(w, " in both %s)", are_web_xml(t) ? "web.xml files" : "listings");
     } else {
-        say_best(w, new, in_new, "the new listing");
-        say(w, ", ");
-        say_best(w, old, in_old, "the old one");
+        say_best(w, new, in_new);
+        say(w, " in the new %s, ", kind_of_file(t->new.listing));
+        say_best(w, old, in_old);
+        say(w, " in the old one)");
     }
-    say(w, ")");
 }
 
 /* What the old listing answers to the request shown. */
@@ -120,7 +126,7 @@ void say_wider(const struct trials *t, const struct request *q, int more_here, c
     say_method(&w, t, q->method);
     say(&w, " on ");
     say_path(&w, t, q->path);
-    say(&w, ". The old listing %s.", old_answer(t, q));
+    say(&w, ". The old %s %s.", kind_of_file(t->old.listing), old_answer(t, q));
     tell(&w);
     say_more(&more, more_here, s, q->role.len > 0);
     tell(&more);
@@ -129,7 +135,7 @@ void say_wider(const struct trials *t, const struct request *q, int more_here, c
 void say_all(const struct trials *t, const struct summary *s, const char *accepting) {
     struct words w = {.len = 0};
     say(&w, s->paths == 1 ? "WIDER: on 1 path" : "WIDER: on %u paths", (unsigned)s->paths);
-    say(&w, " someone may do more than under the old listing");
+    say(&w, " someone may do more than under the old %s", kind_of_file(t->old.listing));
     if (accepting) say(&w, ", and it is not in %s", accepting);
     if (s->to_anyone)
         say(&w, s->to_anyone == s->paths ? "; anyone may, without a login" : "; on %u of them anyone may, without a login", (unsigned)s->to_anyone);
@@ -138,8 +144,8 @@ void say_all(const struct trials *t, const struct summary *s, const char *accept
     tell(&w);
 }
 
-void say_accepted(const char *accepting) {
+void say_accepted(const struct trials *t, const char *accepting) {
     struct words w = {.len = 0};
-    say(&w, "ACCEPTED: the new listing is wider than the old one, and all of that is in %s.", accepting);
+    say(&w, "ACCEPTED: the new %s is wider than the old one, and all of that is in %s.", kind_of_file(t->new.listing), accepting);
     tell(&w);
 }

@@ -11,7 +11,7 @@ struct request {
 };
 struct request shown_request(struct text answer);
 
-void say_no_wider(void);
+void say_no_wider(const struct listing *old, const struct listing *new);
 
 /* Who may do what under the new listing, what the old listing answers to it, and how much more is wider: on this path, and on all. */
 void say_wider(const struct trials *t, const struct request *q, int more_here, const struct summary *s);
@@ -20,6 +20,6 @@ void say_wider(const struct trials *t, const struct request *q, int more_here, c
 void say_all(const struct trials *t, const struct summary *s, const char *accepting);
 
 /* That the file has all of it. */
-void say_accepted(const char *accepting);
+void say_accepted(const struct trials *t, const char *accepting);
 
 #endif

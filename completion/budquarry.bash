@@ -20,10 +20,10 @@ _budquarry() {
         compopt -o filenames 2>/dev/null
         mapfile -t COMPREPLY < <(compgen -f -- "$word")
     elif [[ ! $verb ]]; then
-        mapfile -t COMPREPLY < <(compgen -W "compare decide check --help --version $options" -- "$word")
+        mapfile -t COMPREPLY < <(compgen -W "compare decide check from-web-xml --help --version $options" -- "$word")
     elif [[ $word == -?* ]]; then
         mapfile -t COMPREPLY < <(compgen -W "$options" -- "$word")
-    elif [[ $verb == compare && $operands -lt 2 || $verb == decide && $operands -eq 0 || $verb == check && $operands -eq 0 ]]; then
+    elif [[ $verb == compare && $operands -lt 2 || $verb =~ ^(decide|check|from-web-xml)$ && $operands -eq 0 ]]; then
         compopt -o filenames 2>/dev/null
         mapfile -t COMPREPLY < <(compgen -f -- "$word")
     elif [[ $verb == decide && $operands -eq 1 ]]; then

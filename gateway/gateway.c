@@ -18,7 +18,7 @@ enum { THREADS = 4, IDLE_SECONDS = 10, TICK_NANOSECONDS = 250000000 };
 
 static const char usage[] = "usage: gateway --port PORT --listing FILE --users FILE [--pass-odd-paths]\n"
                             "PORT 0 is any free port; the first line of standard output says which. Loopback only.\n"
-                            "FILE of users: name<tab>password<tab>role,role.. a line. SIGHUP reads the listing again.\n"
+                            "FILE of rules: a listing or a web.xml; SIGHUP reads it again. FILE of users: name<tab>password<tab>role,role.. a line.\n"
                             "--pass-odd-paths: decide on paths with // /./ /../ % # \\ as they came, instead of refusing them.\n";
 
 struct options {

@@ -27,10 +27,10 @@ void log_problem(const char *file, const char *problem) {
     fprintf(stderr, ": %s\n", problem);
 }
 
-/* Only a listing's own refusals: what a request is refused for goes to whoever sent it. */
+/* Only the own refusals of a listing and of a web.xml: what a request is refused for goes to whoever sent it. */
 static const char *rule(uint32_t number) {
     switch (number) {
-    case BUDQUARRY_LONG_LISTING: return "it has more bytes than a listing may have";
+    case BUDQUARRY_LONG_LISTING: return "the listing has more bytes than one may have";
     case BUDQUARRY_BAD_FIRST_LINE: return "the first line must be exactly constraints<tab>1";
     case BUDQUARRY_BAD_FORM: return "unknown record name, wrong number of fields (one tab parts two), or no line feed at the end";
     case BUDQUARRY_WRONG_PLACE: return "this record may not stand here";
@@ -39,6 +39,10 @@ static const char *rule(uint32_t number) {
     case BUDQUARRY_ROLE_TWICE: return "this role is declared already";
     case BUDQUARRY_PAST_MOST: return "one too many: of constraints, collections, patterns, methods or roles";
     case BUDQUARRY_NO_END: return "the last line must be end, with nothing behind it";
+    case BUDQUARRY_LONG_XML: return "it has more bytes than a web.xml may have";
+    case BUDQUARRY_BAD_XML: return "not well formed, an element out of place or missing, or more of XML than is read";
+    case BUDQUARRY_DEEP_XML: return "an element stands too deep";
+    case BUDQUARRY_REFUSED_ELEMENT: return "user-data-constraint and deny-uncovered-http-methods are not supported";
     default: return "a refusal that is not about the listing";
     }
 }

@@ -14,17 +14,38 @@ static struct {
     size_t len;
 } running;
 
-/* A listing as it stands in a file: one byte more than a listing may have, so that the library sees that a longer one is longer. */
+/* A listing: one byte more than it may have, so that the library sees that a longer one is longer. */
 struct fresh {
     uint8_t text[BUDQUARRY_LISTING + 1];
     size_t len;
 };
 
-/* The new listing, where it can be read and the library accepts it. A file that someone is still writing has no `end` and is refused. */
-static int read_listing(const char *file, struct fresh *to) {
+/* Whether a file's first bytes are those of XML, as no listing's are: a byte order mark or none, white space, and then `<`. */
+static int looks_like_xml(const uint8_t *text, size_t len) {
+    size_t at = len >= 3 && !memcmp(text, "\xef\xbb\xbf", 3) ? 3 : 0;
+    while (at < len && (text[at] == ' ' || text[at] == '\t' || text[at] == '\r' || text[at] == '\n')) at++;
+    return at < len && text[at] == '<';
+}
+
+/* The listing that the text is, or that it means as a web.xml, where the library accepts it. */
+static struct budquarry_report take(const uint8_t *text, size_t len, struct fresh *to) {
     budquarry_work work;
-    if (!read_file(file, to->text, sizeof to->text, &to->len)) return 0;
-    struct budquarry_report r = budquarry_read(to->text, to->len, work, BUDQUARRY_WORK);
+    if (looks_like_xml(text, len)) {
+        struct budquarry_written w = budquarry_from_web_xml(text, len, to->text, sizeof to->text, work, BUDQUARRY_WORK);
+        to->len = w.length;
+        return (struct budquarry_report){w.number, w.side, w.line};
+    }
+    to->len = len < sizeof to->text ? len : sizeof to->text;
+    memcpy(to->text, text, to->len);
+    return budquarry_read(to->text, to->len, work, BUDQUARRY_WORK);
+}
+
+/* The new listing, where it can be read and the library accepts it. A file that someone is still writing has no `end`, or no `</web-app>`, and is refused. */
+static int read_listing(const char *file, struct fresh *to) {
+    uint8_t text[BUDQUARRY_XML + 1];
+    size_t len;
+    if (!read_file(file, text, sizeof text, &len)) return 0;
+    struct budquarry_report r = take(text, len, to);
     if (r.number) log_refusal(file, r);
     return !r.number;
 }

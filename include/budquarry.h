@@ -1,5 +1,5 @@
 /* budquarry.h: access rules of one web application, read, decided and compared. This is the library's manual; README.md says what it is for, and
- * budquarry-listing(5) what a listing is.
+ * budquarry-listing(5) what a listing is, budquarry-web-xml(5) what is read of a web.xml.
  *
  * Link with libbudquarry.a (x86-64). It needs memset and memcpy and nothing else: `cc gateway.c $(pkg-config --cflags --libs budquarry)`.
  * examples/link.c is a whole program. May this caller write the clock offset?
@@ -29,7 +29,8 @@
  * pointer and a length in numbers. Null with length 0 is fine. Texts that are only read (const) may be one and the same or overlap; the work table and
  * the answer buffer overlap nothing.
  *
- * Stack of one call, besides the buffers: under 1 KiB for reading, under 3 KiB for deciding and for comparing; see bench/RESULTS.md.
+ * Stack of one call, besides the buffers: under 1 KiB for reading, under 3 KiB for deciding and for comparing, under 6 KiB for reading a web.xml; see
+ * bench/RESULTS.md.
  */
 #ifndef BUDQUARRY_H
 #define BUDQUARRY_H
@@ -37,16 +38,17 @@
 #include <stddef.h>
 #include <stdint.h>
 
-#define BUDQUARRY_VERSION "1.1"
+#define BUDQUARRY_VERSION "1.2"
 
 #ifdef __cplusplus
 extern "C" {
 #endif
 
 enum {
-    BUDQUARRY_WORK = 4096,    /* least numbers in the work table */
-    BUDQUARRY_ANSWER = 1024,  /* least bytes in the answer buffer */
-    BUDQUARRY_LISTING = 24576 /* most bytes of a listing */
+    BUDQUARRY_WORK = 4096,     /* least numbers in the work table */
+    BUDQUARRY_ANSWER = 1024,   /* least bytes in the answer buffer */
+    BUDQUARRY_LISTING = 24576, /* most bytes of a listing */
+    BUDQUARRY_XML = 65536      /* most bytes of a web.xml */
 };
 
 typedef uint32_t budquarry_work[BUDQUARRY_WORK]; /* a work table */
@@ -126,6 +128,31 @@ enum { BUDQUARRY_NO_WIDER = 17 }; /* the length of the answer `verdict<tab>no wi
  * refusal length is 0 and the whole answer buffer as before: a caller who forgets to look at number can't read a refusal as a verdict. */
 struct budquarry_comparison budquarry_compare(const uint8_t *old_listing, size_t old_len, const uint8_t *new_listing, size_t new_len,
                                               uint8_t *answer, size_t answer_len, uint32_t *work, size_t work_len);
+
+/* Refusals of reading a web.xml, beside BUDQUARRY_SHORT_TABLE, which comes first of all. Next comes BUDQUARRY_LONG_XML; then the first fault in the
+ * file, and at one place in this order: BUDQUARRY_BAD_XML, BUDQUARRY_DEEP_XML, BUDQUARRY_REFUSED_ELEMENT, BUDQUARRY_BAD_NAME, BUDQUARRY_BAD_PATTERN,
+ * BUDQUARRY_ROLE_TWICE, BUDQUARRY_PAST_MOST, all with side 1 and a line of the file; then BUDQUARRY_LONG_LISTING, where the listing would be too long
+ * (side 1, line 0); last BUDQUARRY_ROOM_SHORT. The line is that of the `<` of the tag at fault, or of the start tag round the text at fault, or the
+ * last where the file runs out. */
+enum {
+    BUDQUARRY_ROOM_SHORT = 15,     /* side 0, line 0: the lent buffer is shorter than the listing; length is the length needed */
+    BUDQUARRY_LONG_XML = 16,       /* side 1, line 0: file over BUDQUARRY_XML bytes */
+    BUDQUARRY_BAD_XML = 17,        /* not well formed, another arrangement, or outside the subset (no DTD, CDATA, numeric references, instructions) */
+    BUDQUARRY_DEEP_XML = 18,       /* an element deeper than 8, the root being 1 */
+    BUDQUARRY_REFUSED_ELEMENT = 19 /* a `user-data-constraint` or `deny-uncovered-http-methods`, anywhere */
+};
+
+struct budquarry_written {
+    uint32_t number, side, line;
+    size_t length;
+};
+
+/* Reads a web.xml and writes what it says as a listing, into the first length bytes of the listing buffer; the bytes past it stay as they were.
+ * BUDQUARRY_LISTING bytes are always enough. `security-role` and `security-constraint` below `web-app` are read; attributes, comments, the XML
+ * declaration and all other elements are passed over. A constraint without an `auth-constraint` is open, one with an empty one closes to everyone.
+ * What is written is accepted by budquarry_read. With a refusal the buffer is as before and length 0, but beside BUDQUARRY_ROOM_SHORT. */
+struct budquarry_written budquarry_from_web_xml(const uint8_t *xml, size_t xml_len, uint8_t *listing, size_t listing_len, uint32_t *work,
+                                                size_t work_len);
 
 #ifdef __cplusplus
 }

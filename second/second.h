@@ -1,4 +1,4 @@
-/* second.h: the literal implementation of 01-scope.md and of Item 1 of
+/* second.h: the literal implementation of 01-scope.md and of Items 1 and 3 of
  * 02-change-requests.md.  Readable beats fast. */
 #ifndef SECOND_H
 #define SECOND_H
@@ -9,6 +9,7 @@
 struct second_report { uint32_t number, side, line; };
 struct second_decision { uint32_t number, side, line, answer; };
 struct second_comparison { uint32_t number, side, line; size_t length; };
+struct second_written { uint32_t number, side, line; size_t length; };
 
 /* Answers of deciding: 0 stands beside a refusal. */
 enum {
@@ -33,5 +34,10 @@ struct second_comparison second_compare(const uint8_t *old_listing, size_t old_l
                                         const uint8_t *new_listing, size_t new_len,
                                         uint8_t *answer, size_t answer_len,
                                         uint32_t *work, size_t work_len);
+
+/* 02, Item 3; in webxml.c. */
+struct second_written second_from_web_xml(const uint8_t *xml, size_t xml_len,
+                                          uint8_t *listing, size_t listing_len,
+                                          uint32_t *work, size_t work_len);
 
 #endif

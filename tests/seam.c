@@ -2,6 +2,7 @@
  * them, and the header's numbers. A test of its own for each, that fails by its name:
  *   sides    budquarry_compare with old and new in each other's place; by the answer's bytes alone, wherever the fields are
  *   texts    budquarry_decide with two of its four texts in each other's place; by the sum of the fields, wherever they are
+ *   rooms    budquarry_from_web_xml with two of its three buffers in each other's place; by the bytes of the buffers alone, wherever the fields are
  *   fields   a struct with two fields in each other's place; by outcomes in which no two fields are the same
  *   numbers  a refusal, or an answer, whose number isn't the header's
  * Exit 1 where one fails; behind a test that fails the next are not tried. */
@@ -15,7 +16,8 @@
 
 static uint32_t work[BUDQUARRY_WORK];
 static uint8_t answer[BUDQUARRY_ANSWER];
-static char text[BUDQUARRY_LISTING + 100];
+static char text[BUDQUARRY_XML + 100];
+static uint8_t listing[BUDQUARRY_LISTING];
 static int wrong;
 
 static struct budquarry_report reads(const char *t) { return budquarry_read(TEXT(t), work, BUDQUARRY_WORK); }
@@ -28,15 +30,19 @@ static struct budquarry_comparison compares(const char *old, const char *new) {
     return budquarry_compare(TEXT(old), TEXT(new), answer, BUDQUARRY_ANSWER, work, BUDQUARRY_WORK);
 }
 
+static struct budquarry_written imports(const char *xml) {
+    return budquarry_from_web_xml(TEXT(xml), listing, BUDQUARRY_LISTING, work, BUDQUARRY_WORK);
+}
+
 static void fails(const char *test, const char *what) {
     wrong++;
     printf("seam: %s: not as the header has it: %s\n", test, what);
 }
 
-static void is(const char *test, const char *what, uint32_t want, uint32_t got) {
+static void is(const char *test, const char *what, size_t want, size_t got) {
     if (got == want) return;
     fails(test, what);
-    printf("  want %u, got %u\n", want, got);
+    printf("  want %zu, got %zu\n", want, got);
 }
 
 /* ---- a listing without constraints is wider than one that asks for a role, and not the other way round */
@@ -57,10 +63,22 @@ static void texts(void) {
     is("texts", "listing, path, method and roles of a grant", BUDQUARRY_BY_ROLE, d.number + d.side + d.line + d.answer);
 }
 
+/* ---- two web.xml files, of which the first is read and the second written over. Both are shorter than a work table: one in its place is refused. */
+#define ROLE(name) "<security-role><role-name>" name "</role-name></security-role>"
+#define ROOT(in) "<web-app>" in "</web-app>"
+
+static void rooms(void) {
+    static char one[] = ROOT(ROLE("assessor")), other[] = ROOT(ROLE("adjuster"));
+    static const char want[] = FIRST "role\tassessor\nend\n";
+    budquarry_from_web_xml(TEXT(one), (uint8_t *)other, sizeof other - 1, work, BUDQUARRY_WORK);
+    if (memcmp(other, want, sizeof want - 1)) fails("rooms", "the listing is not in the second buffer"), printf("%.*s\n", (int)sizeof other - 1, other);
+    if (strcmp(one, ROOT(ROLE("assessor")))) fails("rooms", "the web.xml is not as it was"), printf("%.*s\n", (int)sizeof one - 1, one);
+}
+
 /* ---- number, side, line and the fourth field, no two of them the same */
-static void are(const char *what, uint32_t number, uint32_t side, uint32_t line, uint32_t last, const uint32_t want[4]) {
+static void are(const char *what, uint32_t number, uint32_t side, uint32_t line, size_t last, const uint32_t want[4]) {
     static const char *const names[4] = {"number", "side", "line", "the last field"};
-    const uint32_t got[4] = {number, side, line, last};
+    const size_t got[4] = {number, side, line, last};
     for (int i = 0; i < 4; i++) {
         char field[100];
         sprintf(field, "%s of %s", names[i], what);
@@ -85,6 +103,19 @@ static void fields(void) {
     are("struct budquarry_comparison, refused", c.number, c.side, c.line, c.length, bad_new);
     c = compares(CLOCK "end\n", CLOCK "end\n");
     are("struct budquarry_comparison, no wider", c.number, c.side, c.line, c.length, no_wider);
+}
+
+static void written_fields(void) {
+    static const uint32_t refused[4] = {BUDQUARRY_BAD_XML, 1, 3, 0}, longer[4] = {BUDQUARRY_LONG_XML, 1, 0, 0};
+    static const uint32_t accepted[4] = {0, 0, 0, 32}, room_short[4] = {BUDQUARRY_ROOM_SHORT, 0, 0, 32}; /* FIRST, `role` and its name, `end` */
+    struct budquarry_written w = imports("<web-app>\n\n<role-name/></web-app>");
+    are("struct budquarry_written, refused", w.number, w.side, w.line, w.length, refused);
+    w = imports(ROOT(ROLE("assessor")));
+    are("struct budquarry_written, accepted", w.number, w.side, w.line, w.length, accepted);
+    w = budquarry_from_web_xml((const uint8_t *)text, BUDQUARRY_XML + 1, listing, BUDQUARRY_LISTING, work, BUDQUARRY_WORK);
+    are("struct budquarry_written, file too long", w.number, w.side, w.line, w.length, longer);
+    w = budquarry_from_web_xml(TEXT(ROOT(ROLE("assessor"))), listing, 31, work, BUDQUARRY_WORK);
+    are("struct budquarry_written, buffer too short", w.number, w.side, w.line, w.length, room_short);
 }
 
 /* ---- each refusal and each answer once */
@@ -115,6 +146,35 @@ static void refusals(void) {
     NUMBER(BUDQUARRY_BAD_CALLER, asks(FIRST "end\n", "/", "GET", 2, "").number);
 }
 
+/* So many times the same, inside `before` and `behind`. */
+static const char *with_many(const char *before, int n, const char *each, const char *behind) {
+    int at = sprintf(text, "%s", before);
+    for (int i = 0; i < n; i++) at += sprintf(text + at, "%s", each);
+    sprintf(text + at, "%s", behind);
+    return text;
+}
+
+#define COLLECTION(in) "<web-resource-collection>" in "</web-resource-collection>"
+#define CONSTRAINT(in) "<security-constraint>" in "</security-constraint>"
+#define NAME32 "nnnnnnnnnnnnnnnnnnnnnnnnnnnnnnnn"
+
+static void xml_refusals(void) {
+    NUMBER(BUDQUARRY_SHORT_TABLE, budquarry_from_web_xml(TEXT("<web-app/>"), listing, BUDQUARRY_LISTING, work, BUDQUARRY_WORK - 1).number);
+    memset(text, ' ', BUDQUARRY_XML + 1);
+    NUMBER(BUDQUARRY_LONG_XML, budquarry_from_web_xml((const uint8_t *)text, BUDQUARRY_XML + 1, listing, BUDQUARRY_LISTING, work, BUDQUARRY_WORK).number);
+    NUMBER(BUDQUARRY_BAD_XML, budquarry_from_web_xml((const uint8_t *)text, BUDQUARRY_XML, listing, BUDQUARRY_LISTING, work, BUDQUARRY_WORK).number);
+    NUMBER(BUDQUARRY_DEEP_XML, imports(ROOT("<a><a><a><a><a><a><a><a/></a></a></a></a></a></a></a>")).number);
+    NUMBER(BUDQUARRY_REFUSED_ELEMENT, imports(ROOT("<user-data-constraint/>")).number);
+    NUMBER(BUDQUARRY_REFUSED_ELEMENT, imports(ROOT("<deny-uncovered-http-methods/>")).number);
+    NUMBER(BUDQUARRY_BAD_NAME, imports(ROOT(ROLE("*"))).number);
+    NUMBER(BUDQUARRY_BAD_PATTERN, imports(ROOT(CONSTRAINT(COLLECTION("<url-pattern>a</url-pattern>")))).number);
+    NUMBER(BUDQUARRY_ROLE_TWICE, imports(ROOT(ROLE("a") ROLE("a"))).number);
+    NUMBER(BUDQUARRY_PAST_MOST, imports(with_many("<web-app>", 65, CONSTRAINT(COLLECTION("<url-pattern>/</url-pattern>")), "</web-app>")).number);
+    NUMBER(BUDQUARRY_LONG_LISTING, imports(with_many("<web-app><security-constraint>" COLLECTION("<url-pattern>/</url-pattern>") "<auth-constraint>", 600,
+                                                     "<role-name>" NAME32 NAME32 "</role-name>", "</auth-constraint></security-constraint></web-app>")).number);
+    NUMBER(BUDQUARRY_ROOM_SHORT, budquarry_from_web_xml(TEXT("<web-app/>"), listing, 17, work, BUDQUARRY_WORK).number);
+}
+
 static void answers(void) {
     NUMBER(BUDQUARRY_OPEN, asks(CLOCK "end\n", "/", "GET", 0, "").answer);
     NUMBER(BUDQUARRY_BY_ROLE, asks(CLOCK "end\n", "/clock", "GET", 1, "assessor\n").answer);
@@ -125,11 +185,11 @@ static void answers(void) {
 }
 
 int main(void) {
-    static void (*const tests[])(void) = {sides, texts, fields, refusals, answers};
+    static void (*const tests[])(void) = {sides, texts, rooms, fields, written_fields, refusals, xml_refusals, answers};
     for (size_t i = 0; i < sizeof tests / sizeof *tests; i++) {
         tests[i]();
         if (wrong) return 1;
     }
-    puts("seam: sides, texts, fields and numbers are as the header has them");
+    puts("seam: sides, texts, rooms, fields and numbers are as the header has them");
     return 0;
 }

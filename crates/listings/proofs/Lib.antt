@@ -6,12 +6,14 @@
 -- For the crates above:
 --   Lines       where a `pattern` line comes from
 --   Headers     the first line
+--   Countings   one record more
 --   Sound       the records of an accepted listing pass every rule
 -- The code, module by module:
 --   Followings  records: what may follow what
 pub mod Followings
 pub mod Lines
 pub mod Headers
+pub mod Countings
 pub mod Sound
 pub mod Lineups
 pub mod Downward

@@ -21,7 +21,7 @@ use Rattle.entries.specs.Tables.{tablesOf}
 use Rattle.listings.specs.declared.records.Kind.{Kind}
 use Rattle.listings.specs.declared.records.Kind.the-variants.{Role, Constraint, Allow, Collection, Pattern, Method, Omit, End}
 use Rattle.text.proofs.Truths.{and-left, and-right}
-use Rattle.reading.proofs.Countings.{roles-snoc, methods-snoc}
+use Rattle.listings.proofs.Countings.{roles-snoc, methods-snoc}
 use Rattle.listings.proofs.Sound.{Sound, sound-none, sound-more, Passes, Few, sound-few}
 use Rattle.reading.proofs.Keeping.{Kept, kept}
 use Rattle.names.proofs.Plainly.{member-append, member-plain}

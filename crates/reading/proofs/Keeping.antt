@@ -22,7 +22,8 @@ use Rattle.listings.specs.declared.records.Stage.the-variants.{AfterOpen, After
 use Rattle.listings.specs.declared.answers.Fault.the-variants.{WrongPlace, PastMost}
 use Rattle.text.proofs.Truths.{never}
 use Rattle.text.proofs.Indices.{length-snoc, index-member}
-use Rattle.reading.proofs.Countings.{length-on-last, indexed-known, stage-snoc, count-snoc, declared-snoc, roles-snoc, methods-snoc, tables-snoc}
+use Rattle.listings.proofs.Countings.{stage-snoc, count-snoc, declared-snoc, roles-snoc, methods-snoc}
+use Rattle.reading.proofs.Countings.{length-on-last, indexed-known, tables-snoc}
 use Rattle.listings.proofs.Sound.{Passes, Sound, sound-none, sound-more, faultBy, first-broken, Within, Few, few}
 
 -- what tables keep of records

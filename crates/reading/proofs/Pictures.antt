@@ -23,7 +23,8 @@ use Rattle.listings.specs.declared.records.Stage.the-variants.{AfterFirst, Afte
 use Rattle.text.proofs.Truths.{never}
 use Rattle.text.proofs.Indices.{run-snoc, once-distinct, Begins, begins-front}
 use Rattle.entries.proofs.Regions.{on-last-snoc}
-use Rattle.reading.proofs.Countings.{declared-snoc, tables-snoc, begins-indexed, settled}
+use Rattle.listings.proofs.Countings.{declared-snoc}
+use Rattle.reading.proofs.Countings.{tables-snoc, begins-indexed, settled}
 use Rattle.listings.proofs.Sound.{Passes, Sound, sound-none, sound-more, sound-few}
 use Rattle.reading.proofs.Keeping.{Kept, kept}
 use Rattle.reading.proofs.Numberings.{map-last, map-kept, flat-snoc, flat-kept, flat-more, numbers, numbers-none, numbered-more}

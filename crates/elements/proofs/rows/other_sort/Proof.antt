@@ -1,0 +1,42 @@
+-- `rows::other_sort` meets its contract, name by name.
+use borrow.Author.Needs.{needs}
+use Rattle.text.proofs.Truths.{ladder}
+use Rattle.elements.specs.Rows.{sortAt}
+use Rattle.elements.proofs.rows.other_sort.Statement.{statement}
+use Rattle.elements.proofs.rows.other_sort.Tie as tie
+
+slice-aggregate-are-same : tie.Need-slice-aggregate-are-same
+slice-aggregate-are-same c = search needs
+
+are-same-requires : tie.Need-are-same-requires
+are-same-requires c κs = search needs
+
+returns : tie.Need-returns
+unfolding sortAt
+returns c = (search (needs, ladder), search needs)
+
+slice-aggregate-are-same-2 : tie.Need-slice-aggregate-are-same-2
+slice-aggregate-are-same-2 c = search needs
+
+are-same-requires-2 : tie.Need-are-same-requires-2
+are-same-requires-2 c κs = search needs
+
+returns-2 : tie.Need-returns-2
+unfolding sortAt
+returns-2 c = (search (needs, ladder), search needs)
+
+returns-3 : tie.Need-returns-3
+unfolding sortAt
+returns-3 c = (search (needs, ladder), search needs)
+
+pub other-sort-spec : {M : Type 1} → statement M
+other-sort-spec =
+    tie.close
+    (tie.spec
+    slice-aggregate-are-same
+    are-same-requires
+    returns
+    slice-aggregate-are-same-2
+    are-same-requires-2
+    returns-2
+    returns-3)

@@ -1,0 +1,14 @@
+-- `answers::tell` meets its contract: the report is the one that is made.
+use borrow.Author.Needs.{needs}
+use Rattle.importing.proofs.Makings.{handed-is}
+use Rattle.importing.proofs.answers.tell.Statement.{statement}
+use Rattle.importing.proofs.answers.tell.Tie as tie
+
+refuse-requires : tie.Need-refuse-requires
+refuse-requires c κs = search needs
+
+returns : tie.Need-returns
+returns c = search (needs, handed-is)
+
+pub tell-spec : {M : Type 1} → statement M
+tell-spec = tie.close (tie.spec refuse-requires returns)
