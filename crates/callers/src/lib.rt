@@ -1,4 +1,6 @@
 // Who the caller is, and which of the listing's roles it has.
+#![tactic(auto)]
+
 ghost use Rattle.std.specs.Prelude.{◌≡◌, ◌≤◌, ◌<◌, length};
 ghost use Rattle.text.specs.Bytes.{class_table};
 ghost use Rattle.text.specs.Lines.{lines_of};
@@ -11,14 +13,14 @@ use reading::held;
 use text::texts;
 
 // A caller as the listing sees it: not logged in, or logged in with those of the listing's roles, as the digits of a number.
-#[derive(Drop)]
+#[derive(Clone, Copy)]
 pub enum Who {
     Nobody,
     Roles(u64),
 }
 
 // What a login number and a text of names come to: bad, or a caller.
-#[derive(Drop)]
+#[derive(Clone, Copy)]
 pub enum Checked {
     Bad,
     Good(Who),

@@ -1,4 +1,6 @@
 // Compares the listings old.txt and new.txt of the folder that it is run in, and prints the verdict's lines or the refusal's.
+#![tactic(auto)]
+
 use comparing::comparer::ANSWER;
 use libc::{STDERR_FILENO, STDOUT_FILENO};
 use limits::BYTES;

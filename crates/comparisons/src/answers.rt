@@ -7,7 +7,7 @@ use listings::answers::Report;
 
 // To C: length is that of the answer, and 0 beside a refusal.
 #[repr(C)]
-#[derive(Drop)]
+#[derive(Clone, Copy)]
 pub struct Comparison {
     pub report: Report,
     pub length: u32,

@@ -1,4 +1,6 @@
 // Takes each file case000, case001, .. of the folder that it is run in as a stored request, and writes a line for what deciding answers.
+#![tactic(auto)]
+
 use deciding::decider;
 use edges::{cases, lines, work};
 

@@ -3,7 +3,7 @@ use listings::answers::Report;
 
 // To C: the answer is 0 where something is refused.
 #[repr(C)]
-#[derive(Drop)]
+#[derive(Clone, Copy)]
 pub struct Decision {
     pub report: Report,
     pub answer: u32,

@@ -34,7 +34,7 @@ pub fn strongest(s: &[u8], w: &[u32], t: Tally, path: &[u8]) -> Leading
 }
 
 // What the constraints taken so far come to: whether there is one, one that closes, one that frees, and the roles that they allow.
-#[derive(Drop)]
+#[derive(Clone, Copy)]
 pub struct Joined {
     pub any: bool,
     pub closed: bool,

@@ -3,7 +3,7 @@ ghost use Rattle.std.specs.Prelude.{◌≡◌};
 ghost use Rattle.decisions.specs.Decisions.{answer_number};
 
 // The first two are grants; specs/Decisions.antt gives the numbers.
-#[derive(Drop)]
+#[derive(Clone, Copy)]
 pub enum Answer {
     Open,
     ByRole,

@@ -12,7 +12,7 @@ use markup::gathering::Gathered;
 use markup::{gathering, tags};
 
 // Where reading got to: fault 0, the place behind what was read and the phase there, or the refusal's number and the place of the fault.
-#[derive(Drop)]
+#[derive(Clone, Copy)]
 pub struct Went {
     pub fault: u8,
     pub next: usize,

@@ -39,7 +39,7 @@ const GIFTS: [u8; 120] = *b"\
     \xb8\xb8\xb8\xb8\xb8\xb8\xb8\xb8\x08\xb8";
 
 // What a first tag comes to.
-#[derive(Drop)]
+#[derive(Clone, Copy)]
 pub struct Row {
     pub way: u8,
     pub next: u8,

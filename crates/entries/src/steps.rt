@@ -13,7 +13,7 @@ use listings::records::{Kind, Stage};
 use text::texts;
 
 // What a record comes to: the counts with it, or the rule that it breaks.
-#[derive(Drop)]
+#[derive(Clone, Copy)]
 pub enum Stepped {
     Next(Tally),
     Wrong(Fault),

@@ -27,7 +27,7 @@ pub const ALLOWS: usize = 580;
 pub const ACCESSES: usize = 650;
 
 // How much of each list is filled, and where the reader stands.
-#[derive(Drop)]
+#[derive(Clone, Copy)]
 pub struct Tally {
     pub stage: Stage,
     pub lines: usize,

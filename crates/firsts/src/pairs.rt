@@ -2,7 +2,7 @@
 use entries::tables::Tally;
 
 // Their counts.
-#[derive(Drop)]
+#[derive(Clone, Copy)]
 pub struct Pair {
     pub old: Tally,
     pub new: Tally,

@@ -7,7 +7,7 @@ use crate::rosters;
 use entries::tables;
 
 // Nothing, or the number of a trial method and the number of a caller.
-#[derive(Drop)]
+#[derive(Clone, Copy)]
 pub enum Caught {
     Nothing,
     At(usize, u32),

@@ -17,7 +17,7 @@ pub const SORTS: usize = 1666;
 pub const SCRATCH: usize = 2048;
 
 // How many `pattern` lines old and new have, and how many trial methods there are.
-#[derive(Drop)]
+#[derive(Clone, Copy)]
 pub struct Counts {
     pub old: usize,
     pub new: usize,

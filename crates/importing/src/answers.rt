@@ -12,7 +12,7 @@ pub const LONG_FILE: u32 = 16;
 
 // To C: length is that of the listing, beside refusal 15 the length that is needed, and 0 beside the others.
 #[repr(C)]
-#[derive(Drop)]
+#[derive(Clone, Copy)]
 pub struct Import {
     pub report: Report,
     pub length: usize,

@@ -1,4 +1,6 @@
 // The C library: the calls of the three layers, and the one that reads a web.xml, in one archive. Each is its layer's own, with its layer's statement.
+#![tactic(auto)]
+
 ghost use Rattle.reading.specs.Outcomes.{ReadOutcome};
 ghost use Rattle.deciding.specs.Outcomes.{asked, DecideOutcome};
 ghost use Rattle.comparisons.specs.Outcomes.{CompareOutcome};

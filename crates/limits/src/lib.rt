@@ -1,9 +1,11 @@
 // The most that a listing may hold.
+#![tactic(auto)]
+
 ghost use Rattle.std.specs.Prelude.{◌≡◌};
 ghost use Rattle.limits.specs.Limits.{most_of};
 
 // What has a most-number.
-#[derive(Drop)]
+#[derive(Clone, Copy)]
 pub enum Counted {
     Bytes,
     Constraints,

@@ -3,7 +3,7 @@ ghost use Rattle.std.specs.Prelude.{◌≡◌};
 ghost use Rattle.listings.specs.Refusals.{number_of, report};
 
 // What a listing can be refused for; specs/Refusals.antt gives the numbers.
-#[derive(Drop)]
+#[derive(Clone, Copy)]
 pub enum Fault {
     LongListing,
     BadFirstLine,
@@ -47,7 +47,7 @@ pub const SMALL_ANSWER: u32 = 14;
 
 // What every call hands back to C, by itself or first: all three are 0 where nothing is refused.
 #[repr(C)]
-#[derive(Drop)]
+#[derive(Clone, Copy)]
 pub struct Report {
     pub number: u32,
     pub side: u32,

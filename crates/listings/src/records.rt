@@ -6,7 +6,7 @@ ghost use Rattle.listings.specs.Heads.{is_first_method, stages_of, head_of_part,
 use text::texts;
 
 // The kinds of record.
-#[derive(Drop)]
+#[derive(Clone, Copy)]
 pub enum Kind {
     Role,
     Constraint,
@@ -19,14 +19,14 @@ pub enum Kind {
 }
 
 // What a record's name says.
-#[derive(Drop)]
+#[derive(Clone, Copy)]
 pub enum Named {
     Known(Kind),
     Unknown,
 }
 
 // Where a record leaves the reader.
-#[derive(Drop)]
+#[derive(Clone, Copy)]
 pub enum Stage {
     AfterFirst,
     AfterRole,
@@ -42,7 +42,7 @@ pub enum Stage {
 
 // How a line begins: what its record's name says, and how many bytes stand before its field. A name standing alone has an empty field,
 // which the byte 10 behind it ends.
-#[derive(Drop)]
+#[derive(Clone, Copy)]
 pub struct Headed {
     pub named: Named,
     pub size: usize,

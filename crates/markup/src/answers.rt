@@ -3,14 +3,14 @@ ghost use Rattle.std.specs.Prelude.{◌≡◌};
 ghost use Rattle.markup.specs.Places.{blame_at};
 
 // Where reading got to: fault 0 and the place behind what was read, or the refusal's number and the place of the fault.
-#[derive(Drop)]
+#[derive(Clone, Copy)]
 pub struct At {
     pub fault: u8,
     pub next: usize,
 }
 
 // The same of a letter, and the byte that was read (0 beside a fault).
-#[derive(Drop)]
+#[derive(Clone, Copy)]
 pub struct Letter {
     pub fault: u8,
     pub next: usize,
@@ -18,7 +18,7 @@ pub struct Letter {
 }
 
 // The same of the end of a first tag, and whether content follows (false beside a fault).
-#[derive(Drop)]
+#[derive(Clone, Copy)]
 pub struct Ended {
     pub fault: u8,
     pub next: usize,
@@ -26,7 +26,7 @@ pub struct Ended {
 }
 
 // The same of a first tag; its name goes up to the place `end`, and `full` says whether content follows.
-#[derive(Drop)]
+#[derive(Clone, Copy)]
 pub struct Start {
     pub fault: u8,
     pub next: usize,

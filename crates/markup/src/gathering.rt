@@ -9,14 +9,14 @@ use crate::{chars, comments, letters, words};
 use writing;
 
 // How many letters are kept, from the first on that is no white space, and how many up to the last that is none.
-#[derive(Drop)]
+#[derive(Clone, Copy)]
 pub struct Kept {
     pub kept: usize,
     pub size: usize,
 }
 
 // Where reading got to, and what is kept then.
-#[derive(Drop)]
+#[derive(Clone, Copy)]
 pub struct Taken {
     pub fault: u8,
     pub next: usize,
@@ -25,7 +25,7 @@ pub struct Taken {
 }
 
 // Where reading got to, and how many bytes were gathered (0 beside a fault).
-#[derive(Drop)]
+#[derive(Clone, Copy)]
 pub struct Gathered {
     pub fault: u8,
     pub next: usize,

@@ -1,4 +1,6 @@
 // The parts of an XML text read in code: a lent text and places in it for lists, and no tree. The crate `documents` says what each part is; specs/Places.antt how its readers' answers are handed back.
+#![tactic(auto)]
+
 pub mod answers; // what is handed back, and where a fault is put
 pub mod chars; // the kinds of bytes
 pub mod words; // words, names and white space; what stands at a place

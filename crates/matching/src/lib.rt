@@ -1,4 +1,6 @@
 // A path without its parameters; whether a pattern text matches a path, how strongly, and which of several does most strongly. The crate `decisions` says what a match is.
+#![tactic(auto)]
+
 ghost use Rattle.std.specs.Prelude.{◌≡◌, cond, ◌+◌, ◌≤◌, ◌<◌, length, take};
 ghost use Rattle.text.specs.Bytes.{class_table};
 ghost use Rattle.decisions.specs.Matching.{is_under};
@@ -64,7 +66,7 @@ pub fn drop_into(out: &mut [u8], path: &[u8]) -> usize
 }
 
 // How a path ends: whether its last segment has a '.', and the offset of what follows the last one, or of the segment where it has none.
-#[derive(Drop)]
+#[derive(Clone, Copy)]
 pub struct Ending {
     pub some: bool,
     pub at: usize,
@@ -171,7 +173,7 @@ pub fn strength_of(t: &[u8], path: &[u8], x: Ending) -> u32
 }
 
 // While the patterns are gone through: how many are, the line of the first of the strongest, and its strength, 0 where none matches.
-#[derive(Drop)]
+#[derive(Clone, Copy)]
 pub struct Leading {
     pub seen: usize,
     pub at: usize,

@@ -1,4 +1,6 @@
 // What role names, methods and patterns have to be. `clean` says that the text's bytes are all text bytes.
+#![tactic(auto)]
+
 ghost use Rattle.std.specs.Prelude.{◌≡◌};
 ghost use Rattle.text.specs.Texts.{all};
 ghost use Rattle.text.specs.Bytes.{is_text, class_table};

@@ -18,7 +18,7 @@ use reading::held;
 use text::texts;
 
 // What is written of a stem.
-#[derive(Drop)]
+#[derive(Clone, Copy)]
 pub struct Stem {
     pub sort: u32,
     pub in_old: u32,
@@ -26,7 +26,7 @@ pub struct Stem {
 }
 
 // Where a text stands in both views: its line, or their number where it is none of them.
-#[derive(Drop)]
+#[derive(Clone, Copy)]
 pub struct Spot {
     pub in_old: usize,
     pub in_new: usize,

@@ -1,4 +1,6 @@
 // Reads each file case000, case001, .. of the folder that it is run in as a listing, and writes a line for what reading answers.
+#![tactic(auto)]
+
 ghost use Rattle.std.specs.Prelude.{◌≤◌, length};
 
 use edges::{cases, lines, work};

@@ -8,7 +8,7 @@ use entries::tables;
 use entries::tables::Tally;
 
 // What a constraint says: nothing is asked, nobody may, or the roles that may, as the digits of a number.
-#[derive(Drop)]
+#[derive(Clone, Copy)]
 pub enum Access {
     Open,
     Closed,

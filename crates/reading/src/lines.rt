@@ -8,7 +8,7 @@ use listings::records::Named;
 use text::texts;
 
 // A line, cut: what its record's name says, where its field begins and ends, whether that is all text, and whether a byte 10 stands behind it.
-#[derive(Drop)]
+#[derive(Clone, Copy)]
 pub struct Cut {
     pub named: Named,
     pub from: usize,

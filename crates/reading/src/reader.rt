@@ -26,14 +26,14 @@ use listings::records::{Kind, Named};
 use text::{bytes, texts};
 
 // An offset in the listing: the next byte, and the number of its line.
-#[derive(Drop)]
+#[derive(Clone, Copy)]
 pub struct Cursor {
     pub at: usize,
     pub line: u32,
 }
 
 // What a line comes to: on to the next, the end of the listing, or a fault.
-#[derive(Drop)]
+#[derive(Clone, Copy)]
 pub enum Lined {
     Moved(Tally, Cursor),
     Ended(Tally, Cursor),
@@ -41,7 +41,7 @@ pub enum Lined {
 }
 
 // What reading comes to: the counts of the filled table, or a fault and its line.
-#[derive(Drop)]
+#[derive(Clone, Copy)]
 pub enum Loaded {
     Whole(Tally),
     Not(Fault, u32),
@@ -195,7 +195,7 @@ pub fn fill_from(text: &[u8], at: usize, w: &mut [u32]) -> Loaded
 }
 
 // The reader: the lent text, and its offset in it. The borrow checker covers no function over it, so each is thin and leaves the work to one above.
-#[derive(Drop)]
+#[derive(Clone, Copy)]
 pub struct Reader<'a> {
     pub text: &'a [u8],
     pub at: usize,

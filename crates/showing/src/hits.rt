@@ -20,7 +20,7 @@ use numbers::stems;
 use reading::held;
 
 // The numbers of a hit: its stem; the extension behind it, counted from 1, or 0 where there is none; the trial method; the caller.
-#[derive(Drop)]
+#[derive(Clone, Copy)]
 pub struct Found {
     pub stem: usize,
     pub ending: usize,

@@ -208,7 +208,7 @@ pub fn past_text(table: &[u8; 256], s: &[u8], at: usize) -> usize
 }
 
 // A field's end: the next tab or byte 10, or the end of the text; and whether its bytes are all text bytes.
-#[derive(Drop)]
+#[derive(Clone, Copy)]
 pub struct Scanned {
     pub end: usize,
     pub clean: bool,

@@ -10,7 +10,7 @@ use grants::scratch::Counts;
 use grants::{judging, rosters, scratch};
 
 // Nothing, or four numbers: a stem; the extension behind it, counted from 1, or 0 where there is none; the trial method; the caller.
-#[derive(Drop)]
+#[derive(Clone, Copy)]
 pub enum Hit {
     Nothing,
     At(usize, usize, usize, u32),

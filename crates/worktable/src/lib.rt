@@ -1,4 +1,6 @@
 // The lent work table around a call: how long it has to be, and what is left in it.
+#![tactic(auto)]
+
 ghost use Rattle.std.specs.Prelude.{◌≡◌, ◌≤◌, length};
 ghost use Rattle.worktable.specs.Work.{is_short, zeroed};
 

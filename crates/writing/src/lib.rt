@@ -1,5 +1,7 @@
 // Bytes and numbers put into a lent buffer, clipped: what doesn't fit is not written, and the offset behind it is handed back all the same. So a text is measured by
 // writing it into the empty part of a buffer, and written where it fits, by the same code.
+#![tactic(auto)]
+
 ghost use Rattle.std.specs.Prelude.{◌≡◌, ◌∷◌, ◌+◌, ◌≤◌, length, set};
 ghost use Rattle.std.proofs.lemmas.List.Edits.{sets};
 ghost use Rattle.writing.specs.Decimals.{digits};

@@ -1,0 +1,15 @@
+-- `tables::text_at` meets its contract: what the offset and the length say, if it has the stamp.
+use borrow.Author.Rules.{rules}
+use Rattle.entries.proofs.Regions.{text_in, text_other, text_out}
+use Rattle.entries.proofs.tables.text_at.Goals as goal
+
+pub returns-then-s-to : goal.returns-then-s-to
+returns-then-s-to c = search (rules, text_out)
+
+pub returns-then-stamp-x : goal.returns-then-stamp-x
+returns-then-stamp-x c =
+    let sized = c.before.before.before.before.before in
+    text_in _ _ _ _ sized.before.wide.ensures sized.wide2.ensures _ c.stamp.ensures.is c.if-stamp-x.true
+
+pub returns-else-stamp-x : goal.returns-else-stamp-x
+returns-else-stamp-x c = search (rules, text_other)

@@ -1,0 +1,7 @@
+-- `tables::with_member` meets its contract: the shift is the power.
+use borrow.Author.Rules.{rules}
+use Rattle.entries.proofs.Members.{member_in}
+use Rattle.entries.proofs.tables.with_member.Goals as goal
+
+pub returns : goal.returns
+returns c = search (rules, member_in)

@@ -1,0 +1,16 @@
+use borrow.Author.Rules.{rules}
+use Prim.Native.Nat.{◌-◌}
+use Rattle.ledger.proofs.Stamps.{index_start, index_hit, index_miss, index_none}
+use Rattle.ledger.proofs.searching.index.Goals as goal
+
+pub loop-k-init : goal.loop-k-init
+loop-k-init c = search (rules, index_start)
+
+pub returns-then-is_named : goal.returns-then-is_named
+returns-then-is_named c = search (rules, index_hit)
+
+pub loop-k-preserved : goal.loop-k-preserved
+loop-k-preserved c = search (rules, index_miss)
+
+pub returns : goal.returns
+returns c = search (rules, index_none)

@@ -1,0 +1,20 @@
+use borrow.Author.Rules.{rules}
+use mathlib.Core.Path.{refl}
+use Prim.Native.Nat.{◌-◌}
+use Rattle.markup.proofs.Surroundings.{asides_over, asides_stops, asides_turns, asides_less}
+use Rattle.markup.proofs.around.asides.Goals as goal
+
+pub loop-g-init : goal.loop-g-init
+loop-g-init c = (search rules, search rules, refl)
+
+pub returns-then-g-ne0-clause-exact : goal.returns-then-g-ne0-clause-exact
+returns-then-g-ne0-clause-exact c = search (rules, asides_stops)
+
+pub loop-g-smaller : goal.loop-g-smaller
+loop-g-smaller c = search (rules, asides_less)
+
+pub loop-g-preserved : goal.loop-g-preserved
+loop-g-preserved c = (search rules, search rules, search (rules, asides_turns))
+
+pub returns-clause-exact : goal.returns-clause-exact
+returns-clause-exact c = search (rules, asides_over)

@@ -1,0 +1,20 @@
+-- `methods::pair_up` meets its contract: those of new, further ones of old, the filler method.
+use borrow.Author.Rules.{rules}
+use Rattle.numbers.proofs.PairsPut.{new_lent, new_paired, old_lent, old_paired, old_counted, all_methods}
+use Rattle.numbers.proofs.methods.pair_up.Goals as goal
+
+pub pair_old-count-requires : goal.pair_old-count-requires
+pair_old-count-requires c = (search (rules, new_lent), search (rules, new_paired))
+
+pub pair_last-requires : goal.pair_last-requires
+pair_last-requires c =
+    let second = c.before.before.before in
+    let first = second.before.before.before.before in
+    let start = first.before.before.before.before.before in
+    let paired = second.pair-old.ensures in (
+      old_lent _ _ _ _ _ start.requires _ first.pair-new.ensures _ paired.0,
+      (old_paired _ _ _ _ _ start.requires _ first.pair-new.ensures _ paired.0, old_counted _ _ _ _ _ start.requires _ first.pair-new.ensures _ paired.0 _ paired.1),
+    )
+
+pub returns : goal.returns
+returns c = search (rules, all_methods)

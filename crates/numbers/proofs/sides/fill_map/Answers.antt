@@ -1,0 +1,21 @@
+use borrow.Author.Rules.{rules}
+use Prim.Native.Nat.{◌-◌}
+use Rattle.reading.specs.Views.{view_at}
+use Rattle.numbers.proofs.SideLines.{roles_start, role_small, map_more, map_all}
+use native.Mathlib.Omega.{arith}
+use Rattle.numbers.proofs.sides.fill_map.Goals as goal
+
+pub loop-i-init : goal.loop-i-init
+loop-i-init c = search (rules, roles_start)
+
+pub overflow_cast-map : goal.overflow_cast-map
+overflow_cast-map c = search (rules, role_small)
+
+pub loop-i-preserved : goal.loop-i-preserved
+loop-i-preserved c =
+    let turn = c.before.before.before in
+    let start = turn.before.before.before.before.before.before.before in
+    map_more (view_at start.args.new.now start.args.tn start.args.wn.now).roles _ _ _ _ _ _ turn.loop.invariant (omega arith) c.role-name.ensures c.role_index.ensures
+
+pub returns-clause-indices : goal.returns-clause-indices
+returns-clause-indices c = map_all _ _ _ _ _ c.loop-i.invariant (omega arith) c.role_count-n.ensures

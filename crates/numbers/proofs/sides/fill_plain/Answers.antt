@@ -1,0 +1,20 @@
+-- `sides::fill_plain` meets its contract: three parts are filled one after the other.
+use borrow.Author.Rules.{rules}
+use Rattle.numbers.proofs.SideLines.{side_first, side_second, side_gaps, side_plain}
+use Rattle.numbers.proofs.sides.fill_plain.Goals as goal
+
+pub fill_covers-requires : goal.fill_covers-requires
+fill_covers-requires c = search (rules, side_first)
+
+pub fill_accesses-requires : goal.fill_accesses-requires
+fill_accesses-requires c = search (rules, side_second)
+
+pub fill_gaps-requires : goal.fill_gaps-requires
+fill_gaps-requires c =
+    let accesses = c.before.before.before in
+    let covers = accesses.before.before.before.before in
+    let G = covers.before.before.before.before.requires in
+    side_gaps _ _ _ _ _ G.lent _ covers.fill-covers.ensures _ accesses.fill-accesses.ensures _ G
+
+pub returns : goal.returns
+returns c = search (rules, side_plain)

@@ -1,0 +1,16 @@
+use borrow.Author.Rules.{rules}
+use Prim.Native.Nat.{◌-◌}
+use Rattle.numbers.proofs.StemsPut.{stems_start, stems_next, stems_more, stems_all}
+use Rattle.numbers.proofs.stems.fill_stems.Goals as goal
+
+pub loop-j-init : goal.loop-j-init
+loop-j-init c = search (rules, stems_start)
+
+pub stem_at-x-requires : goal.stem_at-x-requires
+stem_at-x-requires c = search (rules, stems_next)
+
+pub loop-j-preserved : goal.loop-j-preserved
+loop-j-preserved c = search (rules, stems_more)
+
+pub returns : goal.returns
+returns c = search (rules, stems_all)

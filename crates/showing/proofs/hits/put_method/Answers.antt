@@ -1,0 +1,60 @@
+-- `hits::put_method` meets its contract: new's name, old's, or the filler method.
+use borrow.Author.Rules.{rules}
+use Rattle.showing.proofs.Methods.{first_read, second_read, method_short, method_there, new_offset, new_bytes, old_offset, old_bytes, filler_offset, filler_bytes}
+use Rattle.showing.proofs.hits.put_method.Goals as goal
+
+pub overflow_add-m : goal.overflow_add-m
+overflow_add-m c = search (rules, first_read)
+
+pub bounds-w-m : goal.bounds-w-m
+bounds-w-m c = search (rules, first_read)
+
+pub method-requires : goal.method-requires
+method-requires c = (search rules, search (rules, method_there))
+
+pub put-requires : goal.put-requires
+put-requires c = (search rules, search (rules, method_short))
+
+pub returns-then-i-method_count-clause-offset : goal.returns-then-i-method_count-clause-offset
+returns-then-i-method_count-clause-offset c = search (rules, new_offset)
+
+pub returns-then-i-method_count-clause-bytes : goal.returns-then-i-method_count-clause-bytes
+returns-then-i-method_count-clause-bytes c = search (rules, new_bytes)
+
+pub overflow_add-m-2 : goal.overflow_add-m-2
+overflow_add-m-2 c = search (rules, second_read)
+
+pub bounds-w-m-2 : goal.bounds-w-m-2
+bounds-w-m-2 c = search (rules, second_read)
+
+pub method-requires-then-j-method_count : goal.method-requires-then-j-method_count
+method-requires-then-j-method_count c = (search rules, search (rules, method_there))
+
+pub put-requires-then-j-method_count : goal.put-requires-then-j-method_count
+put-requires-then-j-method_count c = (search rules, search (rules, method_short))
+
+pub returns-then-j-method_count-clause-offset : goal.returns-then-j-method_count-clause-offset
+returns-then-j-method_count-clause-offset c = search (rules, old_offset)
+
+pub returns-then-j-method_count-clause-bytes : goal.returns-then-j-method_count-clause-bytes
+returns-then-j-method_count-clause-bytes c = search (rules, old_bytes)
+
+pub returns-clause-offset : goal.returns-clause-offset
+returns-clause-offset c = let put = c.put_numbered.ensures in
+    let number = c.before.before.before.before in
+    let past-old = number.before.before.before in
+    let past-new = past-old.before.before.before.before.before in
+    let start = past-new.before.before.before.before.before.before.before.before.before.before.before in
+    let named = filler_offset _ _ _ _ start.requires.0 _ start.requires.1.0 _ _ _ _ _ past-new.before.before.before.wide.ensures past-new.before.method-count.ensures past-new.if1.false past-old.before.before.before.wide2.ensures past-old.before.method-count2.ensures past-old.if2.false number.method_number.ensures in
+    let written = filler_bytes _ _ _ _ start.requires.0 _ start.requires.1.0 _ _ _ _ _ past-new.before.before.before.wide.ensures past-new.before.method-count.ensures past-new.if1.false past-old.before.before.before.wide2.ensures past-old.before.method-count2.ensures past-old.if2.false number.method_number.ensures in
+    (named _ _ put.0, written _ _ _ put.1)
+
+pub returns-clause-bytes : goal.returns-clause-bytes
+returns-clause-bytes c = let put = c.put_numbered.ensures in
+    let number = c.before.before.before.before in
+    let past-old = number.before.before.before in
+    let past-new = past-old.before.before.before.before.before in
+    let start = past-new.before.before.before.before.before.before.before.before.before.before.before in
+    let named = filler_offset _ _ _ _ start.requires.0 _ start.requires.1.0 _ _ _ _ _ past-new.before.before.before.wide.ensures past-new.before.method-count.ensures past-new.if1.false past-old.before.before.before.wide2.ensures past-old.before.method-count2.ensures past-old.if2.false number.method_number.ensures in
+    let written = filler_bytes _ _ _ _ start.requires.0 _ start.requires.1.0 _ _ _ _ _ past-new.before.before.before.wide.ensures past-new.before.method-count.ensures past-new.if1.false past-old.before.before.before.wide2.ensures past-old.before.method-count2.ensures past-old.if2.false number.method_number.ensures in
+    (named _ _ put.0, written _ _ _ put.1)
