@@ -16,4 +16,4 @@ pub returns-then-most-n : goal.returns-then-most-n
 returns-then-most-n c = search (rules, methods_past)
 
 pub returns : goal.returns
-returns c = search (rules, method_new, c.before.before.before.before.before.before.before.before.before.before.before.before.before.before.before.before.before.before.before.before.before.before.before.requires)
+returns c = search (rules, method_new, c.requires)

@@ -7,9 +7,7 @@ pub returns-then-s-to : goal.returns-then-s-to
 returns-then-s-to c = search (rules, text_out)
 
 pub returns-then-stamp-x : goal.returns-then-stamp-x
-returns-then-stamp-x c =
-    let sized = c.before.before.before.before.before in
-    text_in _ _ _ _ sized.before.wide.ensures sized.wide2.ensures _ c.stamp.ensures.is c.if-stamp-x.true
+returns-then-stamp-x c = text_in _ _ _ _ c.wide-from.ensures c.wide-n.ensures _ c.stamp.ensures.is c.if-stamp-x.true
 
 pub returns-else-stamp-x : goal.returns-else-stamp-x
 returns-else-stamp-x c = search (rules, text_other)

@@ -11,8 +11,8 @@ loop-k-init c = (search (rules, lines_counted), search rules, around_none _ _, l
 
 pub pattern-text-requires : goal.pattern-text-requires
 pattern-text-requires c =
-    let at = c.before.before.before in
-    (search (rules, around_holds), line_there _ _ _ _ _ _ _ _ at.loop.invariant.2 at.loop.invariant.0 (search rules) (search rules))
+    let at = c.loop-k.invariant in
+    (search (rules, around_holds), line_there _ _ _ _ _ _ _ _ at.2 at.0 (search rules) (search rules))
 
 pub mark_text-requires : goal.mark_text-requires
 mark_text-requires c = search (rules, marks_lent)
@@ -20,25 +20,21 @@ mark_text-requires c = search (rules, marks_lent)
 pub loop-k-preserved : goal.loop-k-preserved
 loop-k-preserved c =
     let text = c.pattern-text in
-    let at = c.before.before.before.before.before.before.before.before in (
-      at.loop.invariant.0,
+    let at = c.loop-k.invariant in (
+      at.0,
       search rules,
       search (rules, turn_around),
-      turn_marks _ _ _ (search rules) at.loop.invariant.2 _ _ _ _ _ at.loop.invariant.3 at.loop.invariant.0 (search rules) (line_read _ _ _ _ _ _ _ _ at.loop.invariant.2 text.ensures (search rules)) c.mark_text.ensures,
+      turn_marks _ _ _ (search rules) at.2 _ _ _ _ _ at.3 at.0 (search rules) (line_read _ _ _ _ _ _ _ _ at.2 text.ensures (search rules)) c.mark_text.ensures,
     )
 
 pub returns-clause-marked : goal.returns-clause-marked
-returns-clause-marked c = let at = c.before in
-    (lines_end _ _ _ _ at.loop.invariant.3 _ at.loop.invariant.0 c.loop-k-test.false, (at.loop.invariant.2.tables, (at.loop.invariant.2.rest, at.loop.invariant.2.size)))
+returns-clause-marked c = let at = c.loop-k.invariant in lines_end _ _ _ _ at.3 _ at.0 c.loop-k-test.false
 
 pub returns-clause-tables : goal.returns-clause-tables
-returns-clause-tables c = let at = c.before in
-    (lines_end _ _ _ _ at.loop.invariant.3 _ at.loop.invariant.0 c.loop-k-test.false, (at.loop.invariant.2.tables, (at.loop.invariant.2.rest, at.loop.invariant.2.size)))
+returns-clause-tables c = c.loop-k.invariant.2.tables
 
 pub returns-clause-rest : goal.returns-clause-rest
-returns-clause-rest c = let at = c.before in
-    (lines_end _ _ _ _ at.loop.invariant.3 _ at.loop.invariant.0 c.loop-k-test.false, (at.loop.invariant.2.tables, (at.loop.invariant.2.rest, at.loop.invariant.2.size)))
+returns-clause-rest c = c.loop-k.invariant.2.rest
 
 pub returns-clause-size : goal.returns-clause-size
-returns-clause-size c = let at = c.before in
-    (lines_end _ _ _ _ at.loop.invariant.3 _ at.loop.invariant.0 c.loop-k-test.false, (at.loop.invariant.2.tables, (at.loop.invariant.2.rest, at.loop.invariant.2.size)))
+returns-clause-size c = c.loop-k.invariant.2.size
