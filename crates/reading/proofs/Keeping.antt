@@ -212,52 +212,50 @@ module _ (rs : List Record) (T : Tables) (K : Kept rs T) where
   -- ---- each part of the tables by the kind of record
   added_stage : (k : Kind) (t : Text) → (field_add k T t).stage ≡ stage_of (record_with k t)
   unfolding field_add stage_of
-  added_stage k t = elim k [ Role ↦ refl | Constraint ↦ refl | Allow ↦ refl | Collection ↦ refl | Pattern ↦ refl | Method ↦ refl | Omit ↦ refl | End ↦ refl ]
+  added_stage Role t = refl
+  added_stage Constraint t = refl
+  added_stage Allow t = refl
+  added_stage Collection t = refl
+  added_stage Pattern t = refl
+  added_stage Method t = refl
+  added_stage Omit t = refl
+  added_stage End t = refl
 
   added_accesses : (k : Kind) (t : Text) →
       length (field_add k T t).accesses ≡ cond (is_kind Constraint (record_with k t)) (suc (length T.accesses)) (length T.accesses)
   unfolding field_add
-  added_accesses k t =
-      elim k [
-        | Role ↦ refl
-        | Constraint ↦ rw length-snoc
-        | Allow ↦ rw length-on-last
-        | Collection ↦ refl
-        | Pattern ↦ refl
-        | Method ↦ refl
-        | Omit ↦ refl
-        | End ↦ refl
-      ]
+  added_accesses Role t = refl
+  added_accesses Constraint t = rw length-snoc
+  added_accesses Allow t = rw length-on-last
+  added_accesses Collection t = refl
+  added_accesses Pattern t = refl
+  added_accesses Method t = refl
+  added_accesses Omit t = refl
+  added_accesses End t = refl
 
   added_covers : (k : Kind) (t : Text) →
       length (field_add k T t).covers ≡ cond (is_kind Collection (record_with k t)) (suc (length T.covers)) (length T.covers)
   unfolding field_add
-  added_covers k t =
-      elim k [
-        | Role ↦ refl
-        | Constraint ↦ refl
-        | Allow ↦ refl
-        | Collection ↦ rw length-snoc
-        | Pattern ↦ refl
-        | Method ↦ rw length-on-last
-        | Omit ↦ rw length-on-last
-        | End ↦ refl
-      ]
+  added_covers Role t = refl
+  added_covers Constraint t = refl
+  added_covers Allow t = refl
+  added_covers Collection t = rw length-snoc
+  added_covers Pattern t = refl
+  added_covers Method t = rw length-on-last
+  added_covers Omit t = rw length-on-last
+  added_covers End t = refl
 
   added_patterns : (k : Kind) (t : Text) →
       length (field_add k T t).patterns ≡ cond (is_kind Pattern (record_with k t)) (suc (length T.patterns)) (length T.patterns)
   unfolding field_add
-  added_patterns k t =
-      elim k [
-        | Role ↦ refl
-        | Constraint ↦ refl
-        | Allow ↦ refl
-        | Collection ↦ refl
-        | Pattern ↦ rw length-snoc
-        | Method ↦ refl
-        | Omit ↦ refl
-        | End ↦ refl
-      ]
+  added_patterns Role t = refl
+  added_patterns Constraint t = refl
+  added_patterns Allow t = refl
+  added_patterns Collection t = refl
+  added_patterns Pattern t = rw length-snoc
+  added_patterns Method t = refl
+  added_patterns Omit t = refl
+  added_patterns End t = refl
 
   -- a count that moves with the records of one kind
   counted : (r : Record) (k : Kind) (m n : ℕ) → m ≡ cond (is_kind k r) (suc n) n → n ≡ count k rs → m ≡ count k (rs ++ r ∷ [])
@@ -285,17 +283,14 @@ module _ (rs : List Record) (T : Tables) (K : Kept rs T) where
       go k ∙ ap (λ (ms : List Text). cond (names_method (record_with k t)) (known ms t) ms) K.methods ∙ sym (methods_snoc rs (record_with k t))
     where
       go : (k : Kind) → (field_add k T t).methods ≡ cond (names_method (record_with k t)) (known T.methods t) T.methods
-      go k =
-          elim k [
-            | Role ↦ refl
-            | Constraint ↦ refl
-            | Allow ↦ refl
-            | Collection ↦ refl
-            | Pattern ↦ refl
-            | Method ↦ indexed_known t T.methods
-            | Omit ↦ indexed_known t T.methods
-            | End ↦ refl
-          ]
+      go Role = refl
+      go Constraint = refl
+      go Allow = refl
+      go Collection = refl
+      go Pattern = refl
+      go Method = indexed_known t T.methods
+      go Omit = indexed_known t T.methods
+      go End = refl
 
   -- where `role` stands, the roles are the declared ones
   all_declared : (t : Text) → Passes rs (record_with Role t) → T.roles ≡ declared_in rs
@@ -330,17 +325,14 @@ module _ (rs : List Record) (T : Tables) (K : Kept rs T) where
   added_declared k t = rw (declared_snoc rs (record_with k t)) (go k)
     where
       go : (k : Kind) → (field_add k T t).declared ≡ length (cond (is_kind Role (record_with k t)) (declared_in rs ++ t ∷ []) (declared_in rs))
-      go k =
-          elim k [
-            | Role ↦ rw length-snoc (omega (arith, K.declared))
-            | Constraint ↦ K.declared
-            | Allow ↦ K.declared
-            | Collection ↦ K.declared
-            | Pattern ↦ K.declared
-            | Method ↦ K.declared
-            | Omit ↦ K.declared
-            | End ↦ K.declared
-          ]
+      go Role = rw length-snoc (omega (arith, K.declared))
+      go Constraint = K.declared
+      go Allow = K.declared
+      go Collection = K.declared
+      go Pattern = K.declared
+      go Method = K.declared
+      go Omit = K.declared
+      go End = K.declared
 
   -- `allow` puts at most one role behind the others
   added_allowed : (t : Text) → (more : List Text) × (cond (is_star t) T.roles (indexed t T.roles) ≡ T.roles ++ more)

@@ -400,7 +400,7 @@ module _ (methods roles : List Text) (once-m : Once methods) (once-r : Once role
   methods_before : (T : Tables) (k : Kind) (t : Text) → Begins (field_add k T t).methods methods → Begins T.methods methods
   unfolding field_add
   methods_before T k t =
-      elim k [
+      elim k as (λ (k : Kind). Begins (field_add k T t).methods methods → Begins T.methods methods) [
         | Role ↦ λ b. b
         | Constraint ↦ λ b. b
         | Allow ↦ λ b. b
@@ -414,7 +414,7 @@ module _ (methods roles : List Text) (once-m : Once methods) (once-r : Once role
   roles_before : (T : Tables) (k : Kind) (t : Text) → Begins (field_add k T t).roles roles → Begins T.roles roles
   unfolding field_add
   roles_before T k t =
-      elim k [
+      elim k as (λ (k : Kind). Begins (field_add k T t).roles roles → Begins T.roles roles) [
         | Role ↦ begins_front T.roles (t ∷ []) roles
         | Constraint ↦ λ b. b
         | Allow ↦ star (is_star t)

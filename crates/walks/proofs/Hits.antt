@@ -15,7 +15,7 @@ use Rattle.names.specs.Patterns.{PatternKind, exact, prefix, extension, default,
 use Rattle.text.proofs.Indices.{index_bound}
 use Rattle.reading.specs.Views.{View, ProperView}
 use Rattle.trials.specs.Trials.{methods_tried}
-use Rattle.grants.specs.Sides.{Showable}
+use Rattle.grants.specs.Sides.{Showable, roster_in}
 use Rattle.grants.specs.Catches.{fresh_in, caught_from, caught_in}
 use Rattle.grants.specs.Scratch.{old_side, new_side, pairs_in, best_in_old, best_in_new, sort_at, line_in, staying, sort_of, sorted, texts_of, Numbered, Walkable}
 use Rattle.grants.specs.declared.scratch.Counts.{Counts}
@@ -57,7 +57,7 @@ caught_from_below ro rn pairs (suc k) i n h = go (eqb (fresh_in ro rn pairs i) 0
 
 caught_below : (x : List ℕ) (c : Counts) (u v : ℕ) → MethodBelow c.methods (caught_at x c u v)
 unfolding caught_at caught_in
-caught_below x c u v = caught_from_below _ _ (pairs_in x) c.methods 0 c.methods (omega arith)
+caught_below x c u v = caught_from_below (roster_in (old_side x) c.old (line_in u)) (roster_in (new_side x) c.new (line_in v)) (pairs_in x) c.methods 0 c.methods (omega arith)
 
 -- a hit with the extension of stem e from 1 behind its stem, where e is not 0, for trial method m: caller d is caught at two best lines
 pub record HitIn (x : List ℕ) (c : Counts) (e m d : ℕ) : Type 0 where
