@@ -10,17 +10,10 @@ pub compare_numbers-requires : goal.compare_numbers-requires
 compare_numbers-requires c = ((search (rules, both_prepared), search (rules, filler_stays)), search rules)
 
 pub returns-clause-handed : goal.returns-clause-handed
-returns-clause-handed c = let pre = c.before.before.before.before.before.before.before.before.before.before.before.before.before.before.before.before.before.before.before.requires in
-    (search (rules, held_handed, pre), (search (rules, held_written, pre), (search (rules, rest_stays), search rules)))
+returns-clause-handed c = search (rules, held_handed, c.requires)
 
 pub returns-clause-answer : goal.returns-clause-answer
-returns-clause-answer c = let pre = c.before.before.before.before.before.before.before.before.before.before.before.before.before.before.before.before.before.before.before.requires in
-    (search (rules, held_handed, pre), (search (rules, held_written, pre), (search (rules, rest_stays), search rules)))
+returns-clause-answer c = search (rules, held_written, c.requires)
 
 pub returns-clause-rest : goal.returns-clause-rest
-returns-clause-rest c = let pre = c.before.before.before.before.before.before.before.before.before.before.before.before.before.before.before.before.before.before.before.requires in
-    (search (rules, held_handed, pre), (search (rules, held_written, pre), (search (rules, rest_stays), search rules)))
-
-pub returns-clause-size : goal.returns-clause-size
-returns-clause-size c = let pre = c.before.before.before.before.before.before.before.before.before.before.before.before.before.before.before.before.before.before.before.requires in
-    (search (rules, held_handed, pre), (search (rules, held_written, pre), (search (rules, rest_stays), search rules)))
+returns-clause-rest c = search (rules, rest_stays)

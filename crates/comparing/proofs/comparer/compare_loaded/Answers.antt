@@ -19,13 +19,10 @@ pub returns-in-Not-ln-clause-answer : goal.returns-in-Not-ln-clause-answer
 returns-in-Not-ln-clause-answer c = search (rules, new_keeps)
 
 pub returns-in-Whole-ln-clause-handed : goal.returns-in-Whole-ln-clause-handed
-returns-in-Whole-ln-clause-handed c = let pre = c.requires in
-    (search (rules, both_handed, pre), (search (rules, both_written, pre), (search (rules, rest_of, pre), search rules)))
+returns-in-Whole-ln-clause-handed c = search (rules, both_handed, c.requires)
 
 pub returns-in-Whole-ln-clause-answer : goal.returns-in-Whole-ln-clause-answer
-returns-in-Whole-ln-clause-answer c = let pre = c.requires in
-    (search (rules, both_handed, pre), (search (rules, both_written, pre), (search (rules, rest_of, pre), search rules)))
+returns-in-Whole-ln-clause-answer c = search (rules, both_written, c.requires)
 
 pub returns-in-Whole-ln-clause-rest : goal.returns-in-Whole-ln-clause-rest
-returns-in-Whole-ln-clause-rest c = let pre = c.requires in
-    (search (rules, both_handed, pre), (search (rules, both_written, pre), (search (rules, rest_of, pre), search rules)))
+returns-in-Whole-ln-clause-rest c = search (rules, rest_of, c.requires)

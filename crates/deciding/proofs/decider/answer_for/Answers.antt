@@ -12,7 +12,7 @@ pub drop_into-n-requires : goal.drop_into-n-requires
 drop_into-n-requires c = (search (rules, path_short), search rules)
 
 pub slice_bounds-answer_at-end : goal.slice_bounds-answer_at-end
-slice_bounds-answer_at-end c = let h = c.drop_into-n.ensures in lent_length _ _ (omega (arith, h.0, h.1.1))
+slice_bounds-answer_at-end c = let h = c.drop_into-n.ensures in lent_length _ _ (omega (arith, h.size, h.kept))
 
 pub returns : goal.returns
 returns c = search (rules, answer_with)

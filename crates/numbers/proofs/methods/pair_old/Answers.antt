@@ -11,8 +11,7 @@ method-name-requires c = (search rules, search (rules, further_there))
 
 pub loop-j-preserved-then-method_index-own : goal.loop-j-preserved-then-method_index-own
 loop-j-preserved-then-method_index-own c =
-    let at = c.before.before.before.before.before.before.before.before in
-    further_known _ _ _ _ _ _ _ _ _ _ at.loop.invariant c.loop-j-test.true _ c.method-name.ensures _ c.method_index.ensures c.if-method_index-own.true
+    further_known _ _ _ _ _ _ _ _ _ _ c.loop-j.invariant c.loop-j-test.true _ c.method-name.ensures _ c.method_index.ensures c.if-method_index-own.true
 
 pub put_pair-requires : goal.put_pair-requires
 put_pair-requires c = ((search rules, search (rules, further_room)), (search rules, search rules))

@@ -8,12 +8,10 @@ pair_old-count-requires c = (search (rules, new_lent), search (rules, new_paired
 
 pub pair_last-requires : goal.pair_last-requires
 pair_last-requires c =
-    let second = c.before.before.before in
-    let first = second.before.before.before.before in
-    let start = first.before.before.before.before.before in
-    let paired = second.pair-old.ensures in (
-      old_lent _ _ _ _ _ start.requires _ first.pair-new.ensures _ paired.0,
-      (old_paired _ _ _ _ _ start.requires _ first.pair-new.ensures _ paired.0, old_counted _ _ _ _ _ start.requires _ first.pair-new.ensures _ paired.0 _ paired.1),
+    let new = c.pair_new.ensures in
+    let old = c.pair_old-count.ensures in (
+      old_lent _ _ _ _ _ c.requires _ new _ old.paired,
+      (old_paired _ _ _ _ _ c.requires _ new _ old.paired, old_counted _ _ _ _ _ c.requires _ new _ old.paired _ old.count),
     )
 
 pub returns : goal.returns

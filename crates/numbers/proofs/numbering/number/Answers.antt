@@ -13,7 +13,7 @@ pub returns-clause-tables : goal.returns-clause-tables
 returns-clause-tables c = search (rules, all_tables)
 
 pub returns-clause-rest : goal.returns-clause-rest
-returns-clause-rest c = search (rules, all_rest)
+returns-clause-rest c = all_rest _ _ _ _ _ c.write_numbers.ensures
 
 pub returns-clause-size : goal.returns-clause-size
 returns-clause-size c = search (rules, all_size)

@@ -13,9 +13,7 @@ overflow_cast-map c = search (rules, role_small)
 
 pub loop-i-preserved : goal.loop-i-preserved
 loop-i-preserved c =
-    let turn = c.before.before.before in
-    let start = turn.before.before.before.before.before.before.before in
-    map_more (view_at start.args.new.now start.args.tn start.args.wn.now).roles _ _ _ _ _ _ turn.loop.invariant (omega arith) c.role-name.ensures c.role_index.ensures
+    map_more (view_at c.args.new.now c.args.tn c.args.wn.now).roles _ _ _ _ _ _ c.loop-i.invariant (omega arith) c.role-name.ensures c.role_index.ensures
 
 pub returns-clause-indices : goal.returns-clause-indices
 returns-clause-indices c = map_all _ _ _ _ _ c.loop-i.invariant (omega arith) c.role_count-n.ensures

@@ -11,10 +11,7 @@ fill_accesses-requires c = search (rules, side_second)
 
 pub fill_gaps-requires : goal.fill_gaps-requires
 fill_gaps-requires c =
-    let accesses = c.before.before.before in
-    let covers = accesses.before.before.before.before in
-    let G = covers.before.before.before.before.requires in
-    side_gaps _ _ _ _ _ G.lent _ covers.fill-covers.ensures _ accesses.fill-accesses.ensures _ G
+    side_gaps _ _ _ _ _ c.requires.lent _ c.fill_covers.ensures _ c.fill_accesses.ensures _ c.requires
 
 pub returns : goal.returns
 returns c = search (rules, side_plain)

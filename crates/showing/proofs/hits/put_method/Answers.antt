@@ -40,21 +40,11 @@ pub returns-then-j-method_count-clause-bytes : goal.returns-then-j-method_count-
 returns-then-j-method_count-clause-bytes c = search (rules, old_bytes)
 
 pub returns-clause-offset : goal.returns-clause-offset
-returns-clause-offset c = let put = c.put_numbered.ensures in
-    let number = c.before.before.before.before in
-    let past-old = number.before.before.before in
-    let past-new = past-old.before.before.before.before.before in
-    let start = past-new.before.before.before.before.before.before.before.before.before.before.before in
-    let named = filler_offset _ _ _ _ start.requires.0 _ start.requires.1.0 _ _ _ _ _ past-new.before.before.before.wide.ensures past-new.before.method-count.ensures past-new.if1.false past-old.before.before.before.wide2.ensures past-old.before.method-count2.ensures past-old.if2.false number.method_number.ensures in
-    let written = filler_bytes _ _ _ _ start.requires.0 _ start.requires.1.0 _ _ _ _ _ past-new.before.before.before.wide.ensures past-new.before.method-count.ensures past-new.if1.false past-old.before.before.before.wide2.ensures past-old.before.method-count2.ensures past-old.if2.false number.method_number.ensures in
-    (named _ _ put.0, written _ _ _ put.1)
+returns-clause-offset c =
+    filler_offset _ _ _ _ c.requires.0 _ c.requires.1.0 _ _ _ _ _
+    c.wide-i.ensures c.method_count.ensures c.if-i-method_count.false c.wide-j.ensures c.method_count-2.ensures c.if-j-method_count.false c.method_number-n.ensures _ _ c.put_numbered.ensures.offset
 
 pub returns-clause-bytes : goal.returns-clause-bytes
-returns-clause-bytes c = let put = c.put_numbered.ensures in
-    let number = c.before.before.before.before in
-    let past-old = number.before.before.before in
-    let past-new = past-old.before.before.before.before.before in
-    let start = past-new.before.before.before.before.before.before.before.before.before.before.before in
-    let named = filler_offset _ _ _ _ start.requires.0 _ start.requires.1.0 _ _ _ _ _ past-new.before.before.before.wide.ensures past-new.before.method-count.ensures past-new.if1.false past-old.before.before.before.wide2.ensures past-old.before.method-count2.ensures past-old.if2.false number.method_number.ensures in
-    let written = filler_bytes _ _ _ _ start.requires.0 _ start.requires.1.0 _ _ _ _ _ past-new.before.before.before.wide.ensures past-new.before.method-count.ensures past-new.if1.false past-old.before.before.before.wide2.ensures past-old.before.method-count2.ensures past-old.if2.false number.method_number.ensures in
-    (named _ _ put.0, written _ _ _ put.1)
+returns-clause-bytes c =
+    filler_bytes _ _ _ _ c.requires.0 _ c.requires.1.0 _ _ _ _ _
+    c.wide-i.ensures c.method_count.ensures c.if-i-method_count.false c.wide-j.ensures c.method_count-2.ensures c.if-j-method_count.false c.method_number-n.ensures _ _ _ c.put_numbered.ensures.bytes

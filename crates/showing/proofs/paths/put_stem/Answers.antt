@@ -29,9 +29,6 @@ returns-then-starts_with-clause-bytes c = search (rules, starred_bytes)
 pub overflow_sub-e : goal.overflow_sub-e
 overflow_sub-e c = search (rules, ended_long)
 
-pub LOST-slice-aggregate-put-below-3 : goal.LOST-slice-aggregate-put-below-3
-LOST-slice-aggregate-put-below-3 c = lent_length _ _ (search rules)
-
 pub put_below-requires-then-ends_with : goal.put_below-requires-then-ends_with
 put_below-requires-then-ends_with c = (search rules, search (rules, head_short))
 

@@ -35,11 +35,7 @@ returns-in-At c = search (rules, ahead_found)
 
 pub loop-j-preserved : goal.loop-j-preserved
 loop-j-preserved c =
-    let called = c.before.before in
-    let new-made = called.before.before.before.before in
-    let old-made = new-made.before.before.before in
-    let turn = old-made.before.before.before.before.before in
-    ahead_on _ _ _ _ _ _ _ turn.loop.invariant _ refl old-made.before.before.before.before.loop-test.true _ called.try-stem.ensures _ _ _ _ (search rules) (search rules) (search rules) (search rules) (search rules)
+    ahead_on _ _ _ _ _ _ _ c.loop-j.invariant _ refl c.loop-j-test.true _ c.try_stem.ensures _ _ _ _ (search rules) (search rules) (search rules) (search rules) (search rules)
 
 pub returns : goal.returns
 returns c = search (rules, ahead_end)
