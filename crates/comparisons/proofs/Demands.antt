@@ -7,7 +7,7 @@ use mathlib.Core.Logic.{◌⊎◌, inl, inr, ◌↔◌}
 use mathlib.Core.Option.{some, some-injective}
 use Prim.Native.Nat.{ℕ}
 use native.Mathlib.Omega.{arith}
-use lib.ListN.{length, take}
+use lib.ListN.{take}
 use Rattle.text.specs.Texts.{Text, bytes}
 use Rattle.listings.specs.Refusals.{Reading, accepted, refusal, reading_of, report}
 use Rattle.listings.specs.Listings.{listing_of}

@@ -8,7 +8,6 @@ use Rattle.worktable.specs.Work.{is_short}
 use Rattle.reading.specs.Rows.{row, listing_row, last_row}
 use Rattle.listings.specs.declared.answers.Report.{Report}
 use Rattle.comparisons.specs.Outcomes.{is_small}
-use Rattle.comparisons.specs.declared.answers.Comparison.{Comparison}
 
 unfoldable pub compare_rows : Text → Text → Text → List ℕ → List (Option Report)
 unfolding reading_of

@@ -8,7 +8,6 @@ use Rattle.reading.specs.Rows.{row, listing_row, last_row}
 use Rattle.listings.specs.declared.answers.Report.{Report}
 use Rattle.decisions.specs.Requests.{Caller, is_path, is_method, caller_of}
 use Rattle.deciding.specs.Outcomes.{Asked}
-use Rattle.deciding.specs.declared.answers.Decision.{Decision}
 
 abbrev pub is_bad : Option Caller → Bool
 is_bad none = true

@@ -1,10 +1,9 @@
 -- The work table: what stands in it as lists, what a record does to them, and the numbers that hold them.
-use Rattle.std.specs.Prelude.{ℕ, ◌+◌, ◌-◌, ◌*◌, ◌/◌, ◌%◌, ◌≤◌, ◌≡◌, Bool, false, not, cond, List, [], ◌∷◌, ◌++◌, map, length, take, drop, get_or, eqb, ltb, leb}
+use Rattle.std.specs.Prelude.{ℕ, ◌+◌, ◌-◌, ◌*◌, ◌/◌, ◌%◌, ◌≤◌, ◌≡◌, not, cond, List, [], ◌∷◌, ◌++◌, map, length, take, drop, get_or, eqb, ltb, leb}
 use Rattle.std.proofs.Math.Option.{Option, none, some}
 use Rattle.std.specs.Int.Bits.{bit_or}
 use Rattle.text.specs.Texts.{Text, bytes, same, run, onLast, part, index_of}
-use Rattle.text.specs.Lines.{Line, lines_of}
-use Rattle.listings.specs.Records.{Record, formed, stage_of, may_follow, is_kind}
+use Rattle.listings.specs.Records.{Record, may_follow}
 use Rattle.names.specs.Names.{is_star, is_role_name, is_name, is_method_name, is_pattern, is_constraint_kind}
 use Rattle.listings.specs.Heads.{is_first_method}
 use Rattle.limits.specs.Limits.{most_bytes, most_constraints, most_collections, most_patterns, most_method_lines, most_roles, most_methods}

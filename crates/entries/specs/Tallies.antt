@@ -1,5 +1,5 @@
 -- The counts of the work table after each record.
-use Rattle.std.specs.Prelude.{ℕ, ◌+◌}
+use Rattle.std.specs.Prelude.{◌+◌}
 use Rattle.listings.specs.declared.records.Stage.{Stage}
 use Rattle.listings.specs.declared.records.Stage.TheVariants.{AfterFirst, AfterRole, AfterAllow, AfterCollection, AfterPattern}
 use Rattle.entries.specs.declared.tables.Tally.{Tally}

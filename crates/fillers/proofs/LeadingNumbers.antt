@@ -1,7 +1,7 @@
 -- The numbers that a text starts with, found digit by digit.
 use mathlib.Core.Path.{◌≡◌, refl, sym, ap, ◌∙◌}
 use mathlib.Core.Bool.{Bool, true, false, cond, ◌&&◌, ◌||◌, or-false, or_assoc}
-use mathlib.Core.List.{List, [], ◌∷◌, ◌++◌, append_assoc, append-nil, head-eq_of_cons-eq, tail-eq_of_cons-eq}
+use mathlib.Core.List.{[], ◌∷◌, ◌++◌, append_assoc, append-nil, head-eq_of_cons-eq}
 use Prim.Native.Nat.{ℕ, zero, suc, ◌+◌, ◌-◌, ◌*◌, ◌/◌, ◌%◌, ◌^◌, ◌≤◌, ◌<◌}
 use native.Mathlib.Omega.{arith}
 use native.Mathlib.Decide.{dec_lt, ℕ_discrete}
@@ -9,7 +9,7 @@ use lib.ListN.{length}
 use lib.Dec.{eqb, ltb, leb}
 use borrow.Author.Tests.{lt-ltb, le-ltb, ltb-true, ltb-false, le-leb, leb-true, eq-eqb, ne_eqb, eqb-true}
 use Rattle.text.specs.Texts.{Text, same, starts_with, all}
-use Rattle.text.proofs.Truths.{never, not_so, and_left, and_right, and_both}
+use Rattle.text.proofs.Truths.{and_left, and_right, and_both}
 use Rattle.text.proofs.Spans.{same_equal, same_self}
 use Rattle.writing.specs.Decimals.{digits}
 use Rattle.fillers.specs.Marks.{leads}

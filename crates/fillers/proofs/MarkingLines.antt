@@ -6,7 +6,7 @@ use Prim.Native.Nat.{ℕ, zero, suc, ◌+◌, ◌-◌, ◌*◌, ◌≤◌, ◌<�
 use native.Mathlib.Numerals.{add-one}
 use native.Mathlib.Omega.{arith}
 use lib.ListN.{length, take, drop, get_or, drop_of_length-le}
-use lib.Seq.{length-take-le, drop-cons, take-take, take-nil, take_at, drop_at}
+use lib.Seq.{length-take-le, drop-cons, take-take, take_at, drop_at}
 use borrow.Rule.Slice.PartMut.{put_mid, same_len_mid, mid_len, take_put, drop_put}
 use Rattle.text.specs.Texts.{Text, part}
 use Rattle.reading.specs.Holds.{Holds}

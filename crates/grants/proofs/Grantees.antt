@@ -16,7 +16,7 @@ use Rattle.names.specs.Names.{is_role_name}
 use Rattle.listings.specs.Listings.{Listing, patterns_of}
 use Rattle.listings.specs.Propers.{Proper}
 use Rattle.entries.specs.Sets.{set_of, digit}
-use Rattle.reading.specs.Views.{texts, view_of}
+use Rattle.reading.specs.Views.{view_of}
 use Rattle.text.proofs.Truths.{never, not_so}
 use Rattle.text.proofs.Indices.{index_member, index_here}
 use Rattle.entries.proofs.Digits.{set_same, set_none, digit_set}

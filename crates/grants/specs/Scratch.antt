@@ -1,7 +1,7 @@
 -- The scratch of a comparison: what its numbers say. For the proofs alone.
 -- A *stem* stands for each `pattern` line, those of new and then those of old, and one more: the path of an exact line, P`/`filler of a prefix line, `/`filler`.`E of an
 -- extension line, `/`filler of a default line and of the last. Its numbers are its sort, and its best line in old and in new.
-use Rattle.std.specs.Prelude.{ℕ, zero, suc, ◌+◌, ◌*◌, ◌/◌, ◌%◌, ◌≤◌, ◌<◌, ◌≡◌, Bool, true, false, cond, List, [], ◌∷◌, ◌++◌, length, get_or, take, eqb, leb}
+use Rattle.std.specs.Prelude.{ℕ, ◌+◌, ◌*◌, ◌/◌, ◌%◌, ◌≤◌, ◌<◌, ◌≡◌, Bool, false, cond, List, [], ◌++◌, length, get_or, take, eqb, leb}
 use Rattle.text.specs.Texts.{Text, part, same, member, run}
 use Rattle.names.specs.Patterns.{PatternKind, exact, prefix, extension, default, unpermitted, kind_of}
 use Rattle.reading.specs.Views.{View, texts}

@@ -1,6 +1,6 @@
 -- A listing as the program sees it while it compares: best matches as line numbers, callers and methods as numbers, what is granted as a set of
 -- callers. For the proofs alone, which show that it is what the listing decides.
-use Rattle.std.specs.Prelude.{ℕ, zero, suc, ◌+◌, ◌*◌, ◌%◌, ◌≤◌, ◌<◌, ◌≡◌, Bool, true, false, not, cond, ◌&&◌, List, [], ◌∷◌, length, get_or, drop, eqb, ltb, leb}
+use Rattle.std.specs.Prelude.{ℕ, zero, suc, ◌+◌, ◌*◌, ◌%◌, ◌≤◌, ◌<◌, ◌≡◌, Bool, not, cond, ◌&&◌, List, [], ◌∷◌, length, get_or, drop, eqb, ltb, leb}
 use Rattle.text.specs.Texts.{Text, index_of}
 use Rattle.listings.specs.Listings.{Listing, patterns_of}
 use Rattle.entries.specs.Sets.{set_of, digit}

@@ -1,7 +1,7 @@
 -- The first line: a text begins with it, its byte 10 too, just where its first line is as 01 says.
 -- Assumes nothing.
 use mathlib.Core.Path.{◌≡◌, refl, sym, ap, ◌∙◌}
-use mathlib.Core.Bool.{Bool, true, false, cond, ◌&&◌}
+use mathlib.Core.Bool.{Bool, true, false, cond}
 use mathlib.Core.List.{List, [], ◌∷◌, ◌++◌}
 use Prim.Native.Nat.{ℕ, suc, ◌≤◌}
 use native.Mathlib.Omega.{arith}
@@ -10,7 +10,7 @@ use lib.Dec.{eqb}
 use borrow.Author.Tests.{eqb-true, eq-eqb}
 use Rattle.text.specs.Texts.{Text, bytes, newline, same, starts_with}
 use Rattle.text.specs.Lines.{Line, before, lines_of}
-use Rattle.listings.specs.Refusals.{Reading, refusal, first_line, is_first_line, read_from, read_lines}
+use Rattle.listings.specs.Refusals.{refusal, first_line, is_first_line, read_from, read_lines}
 use Rattle.listings.specs.declared.answers.Fault.TheVariants.{BadFirstLine}
 use Rattle.text.proofs.Truths.{never, and_left, and_right}
 

@@ -1,12 +1,10 @@
 -- What an accepted listing is.
-use Rattle.std.specs.Prelude.{ℕ, Bool, true, false, not, cond, ◌&&◌, ◌||◌, drop}
+use Rattle.std.specs.Prelude.{Bool, true, false, not, cond, ◌&&◌, drop}
 use mathlib.Core.List.{List, [], ◌∷◌, ◌++◌, map, flat_map}
-use Rattle.std.proofs.Math.Option.{Option, none, some}
+use Rattle.std.proofs.Math.Option.{none, some}
 use Rattle.text.specs.Texts.{Text, bytes, same, member, run, onLast}
 use Rattle.text.specs.Lines.{Line, lines_of}
 use Rattle.listings.specs.Records.{Record, formed, declared_in, roles_in, methods_in}
-use Rattle.names.specs.Names.{is_star}
-use Rattle.listings.specs.declared.records.Kind.{Kind}
 use Rattle.listings.specs.declared.records.Kind.TheVariants.{Role, Constraint, Allow, Collection, Pattern, Method, Omit, End}
 
 -- the patterns of a collection, and the methods that its `method` and its `omit` lines name

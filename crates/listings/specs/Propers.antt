@@ -1,7 +1,7 @@
 -- What is known of every accepted listing, by what reading refuses: its names and patterns are good, few enough, each once, and
 -- those that its constraints speak of are among its roles and methods.
 use Rattle.std.specs.Prelude.{◌≡◌, true, false, ◌≤◌, length}
-use mathlib.Core.List.{List, Memᴰ}
+use mathlib.Core.List.{Memᴰ}
 use Rattle.text.specs.Texts.{Text, member, Once}
 use Rattle.names.specs.Names.{is_star, is_role_name, is_method_name, is_pattern}
 use Rattle.listings.specs.Listings.{Listing, PatternLine, pattern_lines_of, patterns_of}

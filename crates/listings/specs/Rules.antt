@@ -1,6 +1,6 @@
 -- The plain form of the refusals: which rule is broken at which line, whatever else is broken, and which comes first.
 -- proofs/Exactly.antt shows that reading gives a refusal exactly when its rule is broken there and none is that comes earlier.
-use Rattle.std.specs.Prelude.{ℕ, zero, suc, ◌+◌, ◌-◌, Bool, true, false, cond, not, ◌&&◌, ◌||◌, List, [], ◌∷◌, ◌++◌, length, take, drop, eqb, ltb, leb}
+use Rattle.std.specs.Prelude.{ℕ, zero, suc, ◌+◌, ◌-◌, Bool, true, false, cond, not, ◌&&◌, ◌||◌, List, [], ◌∷◌, length, take, drop, eqb, ltb, leb}
 use Rattle.std.proofs.Math.Option.{Option, none, some}
 use Rattle.text.specs.Texts.{Text, same}
 use Rattle.text.specs.Lines.{Line, lines_of}

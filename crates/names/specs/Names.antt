@@ -1,5 +1,5 @@
 -- What role names, methods and patterns have to be.
-use Rattle.std.specs.Prelude.{ℕ, Bool, true, false, not, ◌&&◌, ◌||◌, List, [], ◌∷◌, length, leb}
+use Rattle.std.specs.Prelude.{ℕ, Bool, not, ◌&&◌, ◌||◌, length}
 use Rattle.text.specs.Texts.{Text, bytes, semicolon, same, has, all, starts_with, ends_with}
 use Rattle.text.specs.Bytes.{between, is_text, is_token}
 use Rattle.names.specs.Patterns.{kind_of, is_permitted}

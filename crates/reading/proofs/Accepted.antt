@@ -1,36 +1,34 @@
 -- Every accepted listing is proper.
 use mathlib.Core.Path.{◌≡◌, refl, sym, ap, subst, ◌∙◌}
-use mathlib.Core.Bool.{Bool, true, false, not, cond, ◌&&◌, ◌||◌}
+use mathlib.Core.Bool.{Bool, true, false, not, cond, ◌||◌}
 use mathlib.Core.List.Memᴰ
 use mathlib.Core.List.{List, [], ◌∷◌, ◌++◌, map, flat_map, Memᴰ}
 use mathlib.Core.Logic.{◌⊎◌, inl, inr}
-use Prim.Native.Nat.{ℕ, ◌+◌, ◌≤◌}
+use Prim.Native.Nat.{ℕ, ◌≤◌}
 use lib.ListN.{length}
 use lib.Dec.{leb}
 use borrow.Author.Tests.{leb-true}
 use native.Mathlib.Omega.{arith}
-use Rattle.text.specs.Texts.{Text, bytes, same, all, member, known, run, onLast, Once}
-use Rattle.listings.specs.Records.{Record, is_kind, names_role, names_method, fields_where, declared_in, roles_in, methods_in}
+use Rattle.text.specs.Texts.{Text, same, all, member, known, onLast, Once}
+use Rattle.listings.specs.Records.{Record, names_role, names_method, fields_where, declared_in, roles_in, methods_in}
 use Rattle.names.specs.Names.{is_star, made_of, is_name, is_role_name, is_method_name, is_pattern}
-use Rattle.text.specs.Bytes.{between, is_text, is_token}
+use Rattle.text.specs.Bytes.{between, is_text}
 use Rattle.listings.specs.Fields.{name_fits, pattern_fits}
-use Rattle.listings.specs.Counts.{count}
 use Rattle.listings.specs.Refusals.{accepted, reading_of}
 use Rattle.listings.specs.Listings.{Collected, Constrained, Listing, PatternLine, adds, constraints_in, listing_in, records_of, listing_of, lines_in_collection, lines_in_constraint, pattern_lines_of, new_constraint, add_allowed, add_collection, add_pattern, add_method, add_omitted, in_collection, patterns_of}
 use Rattle.listings.specs.Propers.{Proper}
-use Rattle.entries.specs.Tables.{tables_of}
 use Rattle.listings.specs.declared.records.Kind.{Kind}
 use Rattle.listings.specs.declared.records.Kind.TheVariants.{Role, Constraint, Allow, Collection, Pattern, Method, Omit, End}
 use Rattle.text.proofs.Truths.{and_left, and_right}
 use Rattle.listings.proofs.Countings.{roles_snoc, methods_snoc}
-use Rattle.listings.proofs.Sound.{Sound, sound_none, sound_more, Passes, Few, sound_few}
-use Rattle.reading.proofs.Keeping.{Kept, kept}
+use Rattle.listings.proofs.Sound.{Sound, sound_none, sound_more, Passes, sound_few}
+use Rattle.reading.proofs.Keeping.{kept}
 use Rattle.names.proofs.Plainly.{member_append, member_plain}
 use Rattle.text.proofs.Spans.{same_self}
 use Rattle.reading.specs.Views.{ProperView, view_of}
 use Rattle.reading.proofs.Viewings.{texts_of_lem}
 use Rattle.text.proofs.Indices.{run-snoc, once_distinct}
-use Rattle.reading.proofs.Rulings.{Pictures, pictures}
+use Rattle.reading.proofs.Rulings.{pictures}
 use Rattle.reading.proofs.Loads.{accepted_sound}
 
 -- ---- each element of a list

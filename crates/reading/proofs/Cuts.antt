@@ -1,26 +1,22 @@
 -- A text cut at its tabs and bytes 10: what the next line is, and its record.
 -- Assumes nothing.
 use mathlib.Core.Path.{◌≡◌, refl, sym, ap, ◌∙◌}
-use mathlib.Core.Bool.{Bool, true, false, not, cond, ◌&&◌, ◌||◌}
-use mathlib.Core.List.{List, [], ◌∷◌, ◌++◌, append_assoc, append-nil}
-use mathlib.Core.Option.{Option, none, some}
-use Prim.Native.Nat.{ℕ, zero, suc, ◌+◌, ◌-◌, ◌≤◌, ◌<◌}
+use mathlib.Core.Bool.{Bool, true, false, ◌||◌}
+use mathlib.Core.List.{List, [], ◌∷◌, ◌++◌, append-nil}
+use mathlib.Core.Option.{Option, none}
+use Prim.Native.Nat.{ℕ, suc, ◌+◌, ◌-◌, ◌≤◌, ◌<◌}
 use native.Mathlib.Nat.{add-sub_cancel_left}
 use native.Mathlib.Numerals.{add-one}
 use native.Mathlib.Omega.{arith}
 use lib.ListN.{length, take, drop, get_or, length-drop, take-append-drop, drop_of_length-le}
-use lib.Seq.{get_or-drop, drop-cons, drop-drop, take-length, take_all}
+use lib.Seq.{get_or-drop, drop-cons, drop-drop}
 use lib.Dec.{eqb}
-use borrow.Author.Tests.{eq-eqb, ne_eqb, eqb-true}
+use borrow.Author.Tests.{ne_eqb, eqb-true}
 use Rattle.text.specs.Texts.{Text, tab, newline, part}
 use Rattle.text.specs.Lines.{Line, before, lines_of, in_first, fields_of, to_field_end}
-use Rattle.listings.specs.declared.records.Named.{Named}
-use Rattle.reading.specs.declared.reader.Cursor.{Cursor}
-use Rattle.reading.specs.declared.reader.Lined.{Lined}
-use Rattle.reading.specs.declared.reader.Lined.TheVariants.{Moved, Ended, Bad}
 use Rattle.listings.specs.declared.answers.Fault.TheVariants.{BadForm}
 use Rattle.entries.specs.Tables.{Tables}
-use Rattle.reading.specs.Fillings.{bad, line_with, line_from, LineOutcome}
+use Rattle.reading.specs.Fillings.{bad, line_with, line_from}
 use Rattle.listings.specs.Records.{Record, alone, with_field, record_named, record_of, formed}
 use Rattle.text.proofs.Truths.{never, or_left, or_right}
 

@@ -1,8 +1,8 @@
 -- How a line begins, and what it comes to: the code looks for a record's name and the byte behind it, and scans the field alone.
 use mathlib.Core.Path.{◌≡◌, refl, sym, ap, ◌∙◌}
-use mathlib.Core.Bool.{Bool, true, false, not, cond, ◌&&◌, ◌||◌, and-false}
+use mathlib.Core.Bool.{Bool, true, false, not, cond}
 use mathlib.Core.List.{List, [], ◌∷◌, ◌++◌}
-use Prim.Native.Nat.{ℕ, zero, suc, ◌+◌, ◌-◌, ◌≤◌, ◌<◌}
+use Prim.Native.Nat.{ℕ, suc, ◌+◌, ◌≤◌, ◌<◌}
 use native.Mathlib.Nat.{add-sub_cancel_left, add-zero}
 use native.Mathlib.Omega.{arith}
 use native.Mathlib.Decide.{dec_lt}
@@ -13,7 +13,7 @@ use borrow.Author.Tests.{ne_eqb, eq-eqb, eqb-true, eqb-false, not-true}
 use Rattle.text.specs.Texts.{Text, bytes, tab, newline, part, same, all, starts_with}
 use Rattle.text.specs.Lines.{lines_of, to_field_end}
 use Rattle.listings.specs.Records.{alone, with_field, record_named}
-use Rattle.listings.specs.Heads.{headed, unheaded, head_of_part, head_of}
+use Rattle.listings.specs.Heads.{head_of_part, head_of}
 use Rattle.entries.specs.Tables.{Tables}
 use Rattle.reading.specs.Fillings.{bad, line_with, line_from, LineOutcome}
 use Rattle.listings.specs.declared.records.Kind.{Kind}

@@ -2,23 +2,23 @@
 -- Assumes nothing.
 use mathlib.Core.Path.{◌≡◌, refl, sym, ap, ◌∙◌}
 use mathlib.Core.Logic.{◌⊎◌, inl, inr}
-use mathlib.Core.Bool.{Bool, true, false, not, cond, ◌&&◌}
-use mathlib.Core.List.{List, [], ◌∷◌, ◌++◌}
+use mathlib.Core.Bool.{Bool, true, false, cond}
+use mathlib.Core.List.{List, []}
 use Prim.Native.Nat.{ℕ, zero, suc, ◌+◌, ◌≤◌, ◌<◌}
 use native.Mathlib.Omega.{arith}
 use native.Mathlib.Decide.{dec_le}
 use lib.ListN.{length, drop}
 use lib.Dec.{ltb}
 use borrow.Author.Tests.{lt-ltb, le-ltb, ne_eqb}
-use Rattle.text.specs.Texts.{Text, bytes, same, part, starts_with}
+use Rattle.text.specs.Texts.{Text, same, part, starts_with}
 use Rattle.text.specs.Lines.{Line, lines_of}
-use Rattle.listings.specs.Refusals.{Reading, accepted, refusal, read_from, read_lines, reading_of, report}
+use Rattle.listings.specs.Refusals.{accepted, refusal, read_from, read_lines, reading_of, report}
 use Rattle.listings.specs.Listings.{records_in, records_of}
-use Rattle.entries.specs.Tables.{Tables, Fits, start_tables, tables_at, tables_of}
-use Rattle.reading.specs.Fillings.{Filling, filled, unfilled, fill_from, answer_of, fill_shown, FillFits, FillOutcome}
+use Rattle.entries.specs.Tables.{Tables, start_tables, tables_of}
+use Rattle.reading.specs.Fillings.{Filling, filled, unfilled, fill_from, answer_of, FillOutcome}
 use Rattle.entries.specs.Room.{listing_room}
 use Rattle.reading.specs.Readers.{Ready, behind_first, stayed, filling_from}
-use Rattle.reading.specs.Holds.{Holds, reading_shown, LoadHolds, LoadOutcome}
+use Rattle.reading.specs.Holds.{reading_shown, LoadOutcome}
 use Rattle.listings.specs.declared.answers.Fault.{Fault}
 use Rattle.listings.specs.declared.answers.Fault.TheVariants.{LongListing, BadFirstLine}
 use Rattle.entries.specs.declared.tables.Tally.{Tally}

@@ -7,7 +7,7 @@ use native.Mathlib.Omega.{arith}
 use lib.ListN.{length, get_or, length-map, get_or-map}
 use Rattle.text.specs.Texts.{Text}
 use Rattle.listings.specs.Records.{Record}
-use Rattle.listings.specs.Listings.{Collected, Constrained, Listing, PatternLine, is_empty, covers, closes, lines_in_collection, lines_in_constraint, pattern_lines_of, listing_in, patterns_of}
+use Rattle.listings.specs.Listings.{Collected, Constrained, Listing, PatternLine, is_empty, closes, lines_in_collection, lines_in_constraint, pattern_lines_of, listing_in, patterns_of}
 use Rattle.reading.specs.Views.{texts, cover_at, access_at, cover_set, admit_set, access_of, view_of, counted, access_by, view_in}
 use Rattle.entries.specs.Tables.{Tables, tables_of}
 use Rattle.reading.specs.declared.held.Access.{Access}

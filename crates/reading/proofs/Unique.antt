@@ -1,5 +1,5 @@
 -- The statement of reading settles its outcome, and the earlier contents of the work table never matter.
-use mathlib.Core.Path.{◌≡◌, refl, sym, ◌∙◌}
+use mathlib.Core.Path.{◌≡◌, sym, ◌∙◌}
 use mathlib.Core.List.{List}
 use Prim.Native.Nat.{ℕ, ◌≤◌}
 use lib.ListN.{length, drop}

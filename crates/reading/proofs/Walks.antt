@@ -2,7 +2,7 @@
 -- Assumes nothing.
 use mathlib.Core.Path.{◌≡◌, refl, sym, ap, ◌∙◌, subst}
 use mathlib.Core.Bool.{Bool, true, false, cond}
-use mathlib.Core.List.{List, [], ◌∷◌, ◌++◌}
+use mathlib.Core.List.{List, [], ◌∷◌}
 use mathlib.Core.Option.{Option, none, some}
 use Prim.Native.Nat.{ℕ, suc, ◌+◌, ◌-◌, ◌≤◌, ◌<◌}
 use native.Mathlib.Omega.{arith}
@@ -10,12 +10,12 @@ use native.Mathlib.Decide.{dec_lt}
 use lib.Dec.{eqb, ltb}
 use borrow.Author.Tests.{lt-ltb, le-ltb}
 use lib.Seq.{drop-cons}
-use lib.ListN.{length, take, drop, get_or, drop_of_length-le}
-use Rattle.text.specs.Texts.{Text, newline, part}
-use Rattle.text.specs.Lines.{Line, before, lines_of, to_field_end}
-use Rattle.listings.specs.Records.{Record, is_kind, formed, alone, with_field, record_named}
-use Rattle.entries.specs.Tables.{Tables, Fits, Stepping, next, wrong, start_tables, region, texts_at, spans_at, step_from, record_with, tables_at, step_shown, StepFits, StepOutcome}
-use Rattle.reading.specs.Fillings.{Lining, bad, moved, ended, Filling, filled, unfilled, closing, fill_from, fill_shown, FillFits, FillOutcome, closed_at, line_shown, is_end_kind, lined_by, line_with, line_from, LineEnd, Gone, LineFits, LineOutcome}
+use lib.ListN.{length, drop, get_or, drop_of_length-le}
+use Rattle.text.specs.Texts.{Text, newline}
+use Rattle.text.specs.Lines.{Line, before, lines_of}
+use Rattle.listings.specs.Records.{Record, is_kind, formed, record_named}
+use Rattle.entries.specs.Tables.{Tables, Fits, Stepping, next, wrong, start_tables, region, texts_at, spans_at, step_from, record_with, tables_at, StepFits, StepOutcome}
+use Rattle.reading.specs.Fillings.{Lining, bad, moved, ended, Filling, unfilled, closing, fill_from, fill_shown, FillFits, FillOutcome, closed_at, line_shown, is_end_kind, lined_by, line_with, line_from, LineEnd, Gone, LineFits, LineOutcome}
 use Rattle.reading.specs.Readers.{Ready}
 use Rattle.entries.specs.Tallies.{start_tally}
 use Rattle.reading.specs.declared.reader.Loaded.{Loaded}

@@ -1,6 +1,6 @@
 -- What a work table holds, as a value: a view, `pattern` line by `pattern` line, with what each covers and says as sets. The view of a listing, and the view that a table holds,
 -- whatever was put into it. For the proofs alone, which show that the decisions made of these sets are those of Decisions.
-use Rattle.std.specs.Prelude.{ℕ, ◌≤◌, ◌≡◌, Bool, true, false, not, cond, ◌&&◌, ◌||◌, length, drop, get_or, eqb, ltb}
+use Rattle.std.specs.Prelude.{ℕ, ◌≤◌, ◌≡◌, Bool, true, not, cond, ◌&&◌, ◌||◌, length, drop, get_or, eqb, ltb}
 use mathlib.Core.List.{List, [], ◌∷◌, map, Memᴰ}
 use Rattle.text.specs.Texts.{Text, bytes, same, member, Once}
 use Rattle.listings.specs.Listings.{Collected, Constrained, Listing, PatternLine, covers, closes, pattern_lines_of}

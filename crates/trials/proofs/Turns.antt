@@ -9,7 +9,7 @@ use native.Mathlib.Omega.{arith}
 use lib.ListN.{length, drop, get_or}
 use Rattle.text.specs.Texts.{Text, member}
 use Rattle.names.specs.Patterns.{kind_of}
-use Rattle.trials.specs.Trials.{below, dotted, extension_in, extensions, paths_of_kind, paths_from, further, joined}
+use Rattle.trials.specs.Trials.{below, dotted, extension_in, extensions, paths_of_kind, paths_from, further}
 use Rattle.trials.specs.Loops.{or_else, first_some}
 
 -- ---- the first answer from index i on

@@ -1,6 +1,6 @@
 -- Texts put into a buffer, one after the other.
 use mathlib.Core.Path.{◌≡◌, refl, sym, ap, ◌∙◌}
-use mathlib.Core.List.{List, [], ◌∷◌, ◌++◌, append-nil}
+use mathlib.Core.List.{[], ◌∷◌, ◌++◌}
 use Prim.Native.Nat.{ℕ, zero, suc, ◌+◌, ◌-◌, ◌/◌, ◌%◌, ◌≤◌, ◌<◌}
 use native.Mathlib.Nat.{add-zero, zero-add}
 use native.Mathlib.Numerals.{add-one}
@@ -9,7 +9,7 @@ use lib.ListN.{length, take, drop, get_or, set, length-append}
 use lib.Seq.{sets, sets-eq, set_out, take-suc, take_all, length-take-le}
 use Rattle.text.specs.Texts.{Text}
 use Rattle.writing.specs.Decimals.{digits}
-use Rattle.writing.proofs.Decimals.{one_digit, more_digits, digits_most}
+use Rattle.writing.proofs.Decimals.{one_digit, more_digits}
 
 -- one text after the other
 pub sets_append : (f g b : Text) (at : ℕ) → sets (sets b at f) (at + length f) g ≡ sets b at (f ++ g)

@@ -1,5 +1,4 @@
 use borrow.Author.Rules.{rules}
-use Prim.Native.Nat.{◌-◌}
 use Rattle.callers.proofs.Callings.{names_begin, name_open, name_tabbed, name_wrong, name_past, name_read, names_end}
 use Rattle.callers.proofs.logged_in.Goals as goal
 

@@ -1,5 +1,4 @@
 use borrow.Author.Rules.{rules}
-use Prim.Native.Nat.{◌-◌}
 use Rattle.matching.proofs.Droppings.{left_start, offset_within, offset_small, left_more, left_size, left_all}
 use Rattle.matching.proofs.drop_into.Goals as goal
 

@@ -1,4 +1,3 @@
-use borrow.Author.Rules.{rules}
 use Prim.Native.Nat.{◌-◌, ◌/◌}
 use native.Mathlib.Omega.{arith}
 use Rattle.writing.proofs.Decimals.{digits_most}

@@ -1,5 +1,4 @@
 use borrow.Author.Rules.{rules}
-use Prim.Native.Nat.{◌-◌}
 use Rattle.writing.proofs.Puts.{put_step, put_all}
 use Rattle.writing.proofs.put.Goals as goal
 

@@ -1,5 +1,4 @@
 use borrow.Author.Rules.{rules}
-use Prim.Native.Nat.{◌-◌}
 use Rattle.deciding.proofs.Turns.{join_start, join_past, join_takes, join_end}
 use Rattle.deciding.proofs.joining.join_lines.Goals as goal
 

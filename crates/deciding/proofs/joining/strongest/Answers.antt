@@ -1,5 +1,4 @@
 use borrow.Author.Rules.{rules}
-use Prim.Native.Nat.{◌-◌}
 use Rattle.matching.proofs.Matchings.{lead_none, lead_step, lead_count, lead_all}
 use Rattle.deciding.proofs.Shorts.{lead_few, lead_short}
 use Rattle.deciding.proofs.joining.strongest.Goals as goal

@@ -1,5 +1,4 @@
 use borrow.Author.Rules.{rules}
-use Prim.Native.Nat.{◌-◌}
 use Rattle.entries.proofs.Regions.{index_start, index_hit, index_on, index_none}
 use Rattle.entries.proofs.tables.index.Goals as goal
 

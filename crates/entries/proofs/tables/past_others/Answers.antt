@@ -1,6 +1,5 @@
 use borrow.Author.Rules.{rules}
 use mathlib.Core.Path.{refl}
-use Prim.Native.Nat.{◌-◌}
 use Rattle.entries.proofs.Regions.{index_other}
 use Rattle.entries.proofs.tables.past_others.Goals as goal
 

@@ -1,4 +1,3 @@
-use Prim.Native.Nat.{◌-◌}
 use borrow.Author.Count.{below_more}
 use borrow.Author.Rules.{rules}
 use Rattle.fillers.proofs.Marking.{digit_unmarked, digit_marked}

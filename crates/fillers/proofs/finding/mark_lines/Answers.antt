@@ -1,4 +1,3 @@
-use Prim.Native.Nat.{◌-◌}
 use borrow.Author.Rules.{rules}
 use Rattle.fillers.proofs.MarkingLines.{around_none, around_holds, lines_counted, line_there, line_read, lines_start, lines_end, marks_lent, turn_around, turn_marks}
 use Rattle.fillers.proofs.finding.mark_lines.Goals as goal

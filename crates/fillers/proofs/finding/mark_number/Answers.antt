@@ -1,4 +1,3 @@
-use Prim.Native.Nat.{◌-◌}
 use borrow.Author.Rules.{rules}
 use Rattle.fillers.proofs.MarkingTexts.{passed_none, passed_digit, number_starts, number_ends, number_below, number_above, number_large, number_zero, number_turns}
 use Rattle.fillers.proofs.finding.mark_number.Goals as goal

@@ -1,4 +1,3 @@
-use Prim.Native.Nat.{◌-◌}
 use borrow.Author.Rules.{rules}
 use Rattle.fillers.proofs.MarkingTexts.{text_starts, text_ends, text_passes, text_turns, text_skips}
 use Rattle.fillers.proofs.finding.mark_text.Goals as goal

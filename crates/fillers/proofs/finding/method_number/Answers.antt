@@ -1,9 +1,6 @@
-use Prim.Native.Nat.{◌-◌}
 use mathlib.Core.Path.{sym, ◌∙◌}
-use mathlib.Core.Bool.{false}
 use borrow.Author.Count.{below_more}
 use borrow.Author.Rules.{rules}
-use Rattle.trials.specs.Fillers.{is_unnamed}
 use Rattle.fillers.proofs.Unnamed.{method_found, method_missed}
 use Rattle.fillers.proofs.finding.method_number.Goals as goal
 

@@ -1,5 +1,4 @@
 use borrow.Author.Rules.{rules}
-use Prim.Native.Nat.{◌-◌}
 use Rattle.firsts.proofs.Enterings.{finding_start, finding_next, finding_found, finding_further, finding_own}
 use Rattle.firsts.proofs.entering.first_of.Goals as goal
 

@@ -1,5 +1,4 @@
 use borrow.Author.Rules.{rules}
-use Prim.Native.Nat.{◌-◌}
 use Rattle.firsts.proofs.Enterings.{choose_start, choose_this, choose_past, choose_all}
 use Rattle.firsts.proofs.entering.nearest.Goals as goal
 

@@ -1,5 +1,4 @@
 use borrow.Author.Rules.{rules}
-use Prim.Native.Nat.{◌-◌}
 use Rattle.firsts.proofs.Enterings.{entering_start, entering_next, entering_more, entering_all}
 use Rattle.firsts.proofs.entering.write_firsts.Goals as goal
 

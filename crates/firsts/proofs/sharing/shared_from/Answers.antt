@@ -1,5 +1,4 @@
 use borrow.Author.Rules.{rules}
-use Prim.Native.Nat.{◌-◌}
 use Rattle.firsts.proofs.Sharings.{share_ends, share_short, share_differs, share_goes}
 use Rattle.firsts.proofs.sharing.shared_from.Goals as goal
 

@@ -1,5 +1,4 @@
 use borrow.Author.Rules.{rules}
-use Prim.Native.Nat.{◌-◌}
 use Rattle.grants.proofs.Judgings.{look_start, look_found, look_on, look_end, small_second, small_first}
 use Rattle.grants.proofs.judging.judge.Goals as goal
 

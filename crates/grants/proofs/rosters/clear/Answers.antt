@@ -1,5 +1,4 @@
 use borrow.Author.Rules.{rules}
-use Prim.Native.Nat.{◌-◌}
 use Rattle.grants.proofs.Stores.{fill_more}
 use Rattle.grants.proofs.Granting.{clear_start, clear_all}
 use Rattle.grants.proofs.rosters.clear.Goals as goal

@@ -1,5 +1,4 @@
 use borrow.Author.Rules.{rules}
-use Prim.Native.Nat.{◌-◌}
 use Rattle.grants.proofs.Stores.{mixed_listed}
 use Rattle.grants.proofs.Granting.{grant_start, grant_more}
 use Rattle.grants.proofs.rosters.grant_roster.Goals as goal

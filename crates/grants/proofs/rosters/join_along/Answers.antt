@@ -1,5 +1,5 @@
 use borrow.Author.Rules.{rules}
-use Prim.Native.Nat.{◌+◌, ◌-◌}
+use Prim.Native.Nat.{◌+◌}
 use native.Mathlib.Omega.{arith}
 use Rattle.grants.proofs.Granting.{along_start, along_more, along_end, joining_size, clear_size}
 use Rattle.grants.proofs.rosters.join_along.Goals as goal

@@ -1,5 +1,4 @@
 use borrow.Author.Rules.{rules}
-use Prim.Native.Nat.{◌-◌}
 use Rattle.grants.proofs.Stores.{mixed_listed}
 use Rattle.grants.proofs.Granting.{line_start, line_more}
 use Rattle.grants.proofs.rosters.join_line.Goals as goal

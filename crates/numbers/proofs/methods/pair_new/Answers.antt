@@ -1,5 +1,4 @@
 use borrow.Author.Rules.{rules}
-use Prim.Native.Nat.{◌-◌}
 use Rattle.numbers.proofs.PairsPut.{pairing_start, pairing_there, pairing_more, pairing_room, pairing_small, pairing_end}
 use Rattle.numbers.proofs.methods.pair_new.Goals as goal
 

@@ -1,5 +1,4 @@
 use borrow.Author.Rules.{rules}
-use Prim.Native.Nat.{◌-◌}
 use Rattle.numbers.proofs.PairsPut.{further_start, further_there, further_known, further_more, further_room, further_end, further_count}
 use Rattle.numbers.proofs.methods.pair_old.Goals as goal
 

@@ -1,5 +1,4 @@
 use borrow.Author.Rules.{rules}
-use Prim.Native.Nat.{◌-◌}
 use Rattle.numbers.proofs.Searchings.{find_start, find_there, find_found, find_further, find_none}
 use Rattle.numbers.proofs.searching.line_of.Goals as goal
 

@@ -1,5 +1,4 @@
 use borrow.Author.Rules.{rules}
-use Prim.Native.Nat.{◌-◌}
 use Rattle.deciding.proofs.Shorts.{lead_few, lead_short}
 use Rattle.numbers.proofs.Searchings.{lacks_each, by_none, by_step, by_all, by_count}
 use Rattle.numbers.proofs.searching.strongest_above.Goals as goal

@@ -1,5 +1,4 @@
 use borrow.Author.Rules.{rules}
-use Prim.Native.Nat.{◌-◌}
 use Rattle.numbers.specs.Writes.{access_number_at}
 use Rattle.numbers.proofs.Writings.{write_start, line_there, write_more, write_all}
 use Rattle.numbers.proofs.sides.fill_accesses.Goals as goal

@@ -1,5 +1,4 @@
 use borrow.Author.Rules.{rules}
-use Prim.Native.Nat.{◌-◌}
 use Rattle.reading.specs.Views.{cover_at}
 use Rattle.numbers.proofs.Writings.{write_start, line_there, write_more, write_all}
 use Rattle.numbers.proofs.sides.fill_covers.Goals as goal

@@ -1,5 +1,4 @@
 use borrow.Author.Rules.{rules}
-use Prim.Native.Nat.{◌-◌}
 use Rattle.grants.specs.Sides.{gap_at}
 use Rattle.numbers.proofs.Writings.{write_start, write_more, write_all}
 use Rattle.numbers.proofs.SideLines.{gap_small, gap_lent}

@@ -1,5 +1,4 @@
 use borrow.Author.Rules.{rules}
-use Prim.Native.Nat.{◌-◌}
 use Rattle.reading.specs.Views.{view_at}
 use Rattle.numbers.proofs.SideLines.{roles_start, role_small, map_more, map_all}
 use native.Mathlib.Omega.{arith}

@@ -1,5 +1,4 @@
 use borrow.Author.Rules.{rules}
-use Prim.Native.Nat.{◌-◌}
 use Rattle.numbers.proofs.SideLines.{gap_start, gap_there, gap_fits, gap_next, gap_begun, gap_found, gap_further, gap_none}
 use Rattle.numbers.proofs.sides.gap.Goals as goal
 

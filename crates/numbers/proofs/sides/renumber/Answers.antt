@@ -1,5 +1,4 @@
 use borrow.Author.Rules.{rules}
-use Prim.Native.Nat.{◌-◌}
 use Rattle.numbers.proofs.SideLines.{set_start, set_has, set_misses, set_lacks, set_all}
 use Rattle.numbers.proofs.sides.renumber.Goals as goal
 

@@ -1,5 +1,4 @@
 use borrow.Author.Rules.{rules}
-use Prim.Native.Nat.{◌-◌}
 use Rattle.numbers.proofs.StemsPut.{stems_start, stems_next, stems_more, stems_all}
 use Rattle.numbers.proofs.stems.fill_stems.Goals as goal
 

@@ -1,5 +1,4 @@
 use borrow.Author.Rules.{rules}
-use Prim.Native.Nat.{◌-◌}
 use Rattle.reading.proofs.Walks.{walk_starts, walk_bad, walk_closed, walk_on, walk_falls, walk_ends}
 use Rattle.reading.proofs.reader.fill_lines.Goals as goal
 

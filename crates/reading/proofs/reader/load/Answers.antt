@@ -1,5 +1,4 @@
 -- `reader::load` meets its contract: the reader stands behind the first line, and fills from there.
-use borrow.Author.Rules.{rules}
 use Rattle.reading.proofs.Loads.{ready_behind}
 use Rattle.reading.proofs.Holdings.{load_read}
 use Rattle.reading.proofs.reader.load.Goals as goal

@@ -1,6 +1,5 @@
 -- `paths::put_stem` meets its contract, kind by kind.
 use borrow.Author.Rules.{rules}
-use Rattle.worktable.proofs.Lent.{lent_length}
 use Rattle.matching.proofs.Matchings.{ended_long}
 use Rattle.showing.proofs.StemPaths.{root_short, tail_short, head_short, text_short, empty_offset, empty_bytes, default_offset, default_bytes, starred_offset, starred_bytes, prefix_offset, prefix_bytes, exact_offset, exact_bytes}
 use Rattle.showing.proofs.paths.put_stem.Goals as goal

@@ -1,5 +1,4 @@
 use borrow.Author.Rules.{rules}
-use Prim.Native.Nat.{◌-◌}
 use Rattle.text.proofs.Spans.{alike_step, alike_end}
 use Rattle.text.proofs.texts.all_same.Goals as goal
 

@@ -1,6 +1,5 @@
 use borrow.Author.Rules.{rules}
 use borrow.Author.Tests.{not-true, not-false}
-use Prim.Native.Nat.{◌-◌}
 use Rattle.text.proofs.Spans.{all_fails, all_step, all_end}
 use Rattle.text.proofs.texts.all_token.Goals as goal
 

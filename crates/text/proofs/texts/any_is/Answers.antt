@@ -1,5 +1,4 @@
 use borrow.Author.Rules.{rules}
-use Prim.Native.Nat.{◌-◌}
 use Rattle.text.proofs.Spans.{has_step, has_end}
 use Rattle.text.proofs.texts.any_is.Goals as goal
 

@@ -1,5 +1,4 @@
 use borrow.Author.Rules.{rules}
-use Prim.Native.Nat.{◌-◌}
 use Rattle.text.proofs.Spans.{same_lengths, same_differ, same_step, same_end}
 use Rattle.text.proofs.texts.are_same.Goals as goal
 

@@ -1,5 +1,4 @@
 use borrow.Author.Rules.{rules}
-use Prim.Native.Nat.{◌-◌}
 use Rattle.text.proofs.Spans.{none_all, scan_begin, scan_four}
 use Rattle.text.proofs.texts.past_text.Goals as goal
 

@@ -1,5 +1,4 @@
 use borrow.Author.Rules.{rules}
-use Prim.Native.Nat.{◌-◌}
 use Rattle.walks.proofs.Gatherings.{and_start, and_more, and_all}
 use Rattle.walks.proofs.gathering.and_into.Goals as goal
 

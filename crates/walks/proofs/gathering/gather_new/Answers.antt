@@ -1,5 +1,4 @@
 use borrow.Author.Rules.{rules}
-use Prim.Native.Nat.{◌-◌}
 use Rattle.grants.proofs.Granting.{roster_size}
 use Rattle.walks.proofs.Gatherings.{roster_of_none, roster_of_line, new_start, new_more, new_pass, new_all}
 use Rattle.walks.proofs.gathering.gather_new.Goals as goal

@@ -1,5 +1,4 @@
 use borrow.Author.Rules.{rules}
-use Prim.Native.Nat.{◌-◌}
 use Rattle.grants.proofs.Granting.{roster_size}
 use Rattle.walks.proofs.Gatherings.{roster_of_none, roster_of_line, old_start, old_more, old_pass, old_all}
 use Rattle.walks.proofs.gathering.gather_old.Goals as goal

@@ -1,5 +1,4 @@
 use borrow.Author.Rules.{rules}
-use Prim.Native.Nat.{◌-◌}
 use Rattle.walks.proofs.Gatherings.{or_start, or_more, or_all}
 use Rattle.walks.proofs.gathering.or_into.Goals as goal
 

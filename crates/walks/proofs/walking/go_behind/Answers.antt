@@ -1,5 +1,4 @@
 use borrow.Author.Rules.{rules}
-use Prim.Native.Nat.{◌-◌}
 use Rattle.walks.proofs.Walkings.{going_start, going_found, going_on, going_past, going_end}
 use Rattle.walks.proofs.walking.go_behind.Goals as goal
 

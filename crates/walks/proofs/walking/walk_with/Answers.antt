@@ -1,6 +1,5 @@
 use borrow.Author.Rules.{rules}
 use mathlib.Core.Path.{refl}
-use Prim.Native.Nat.{◌-◌}
 use Rattle.grants.proofs.Granting.{roster_size}
 use Rattle.walks.proofs.Gatherings.{roster_of_none}
 use Rattle.walks.proofs.Walkings.{ahead_start, ahead_past, ahead_found, ahead_on, ahead_end, at_stem, of_other_sort}
