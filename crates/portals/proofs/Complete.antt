@@ -158,11 +158,11 @@ module _ (d : ℕ) (E : At → Reader At) (sound : (x : At) → Sound (NodeTo d 
       → content_in E n (reached p rs) (u ++ r) ≡ got (reached q rs') r
   unfolding content_in depth ends
   content_walk n {p} {rs = rs} r nothing h over stop = walk_ends _ (node_in E n) refl (λ a x e. node_less n a x) (reached p rs) r (ap not stop)
-  content_walk n {p} {rs = rs} r (further {s = s} {t = t} m k) h g stop =
+  content_walk n {p = p} {rs = rs} r (further {x = x} {c = c} {s = s} {t = t} m k) h g stop =
       let i = node_run n (t ++ r) m (omega arith) g in
       ap (content_in E n (reached p rs)) (append_assoc s t r)
       ∙ walk_goes _ (node_in E n) refl (λ a x e. node_less n a x) (reached p rs) _ (ap not (node_ends (t ++ r) m)) i.run
-      ∙ content_walk n r k (omega arith) i.rest stop
+      ∙ content_walk n {p = i.there.phase} {rs = i.there.kept} r k (omega arith) i.rest stop
 
   pub content_run : ContentRun d (content_in E)
   content_run = record { reads = content_walk }

@@ -145,7 +145,7 @@ module _ {R R' : Type 0} (K : Keeping R) (K' : Keeping R') (T : R → R' → Typ
   element_tied zero x x' s (beside {p = p} u) = tied_behind start_tag _ _ s (λ t r. sinking_tied (length s) (opening p (sort_of t.name)) r)
   element_tied (suc d) x x' s (beside {p = p} u) =
       tied_behind start_tag _ _ s
-      (λ t r. entering_tied _ _ (content_tied (element_in K d) (element_in K' d) (element_tied d)) (length s) t _ _ (opening p (sort_of t.name)) r (beside u))
+      (λ t r. entering_tied _ _ (content_tied (element_in K d) (element_in K' d) (element_tied d)) (length s) t _ _ (opening p (sort_of t.name)) r (beside {p = p} u))
 
   pub root_tied : (x : R) (x' : R') (s : Text) → T x x' → Tied (Beside T) (root_of K x s) (root_of K' x' s)
   unfolding root_of
