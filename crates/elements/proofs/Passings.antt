@@ -1,9 +1,8 @@
 -- A run of bytes that may stand in a content as they are is passed at once.
 use mathlib.Core.Path.{◌≡◌, refl, sym, ap, ◌∙◌}
-use mathlib.Core.Bool.{Bool, true, false, not, cond, ◌&&◌, ◌||◌, false≢true}
+use mathlib.Core.Bool.{Bool, true, false, not, cond, ◌||◌, false≢true}
 use mathlib.Core.List.{[], ◌∷◌}
 use Prim.Native.Nat.{ℕ, ◌-◌, ◌<◌}
-use native.Mathlib.Decide.{ℕ_discrete}
 use lib.Dec.{eqb}
 use lib.ListN.{length, drop}
 use borrow.Author.Tests.{eq-eqb, ne_eqb}
@@ -13,7 +12,6 @@ use Rattle.documents.specs.Parts.{got, blamed, letter_of, ends}
 use Rattle.documents.proofs.Chars.{plain_not}
 use Rattle.documents.proofs.Steps.{run_then, run_true, run_false, run_blamed}
 use Rattle.documents.proofs.Loops.{walk_goes}
-use Rattle.portals.specs.Elements.{phase_number}
 use Rattle.portals.specs.Means.{may_stand}
 use Rattle.portals.specs.Readings.{Keeping, Reached, straying, node_in, content_in, element_in}
 use Rattle.ledger.specs.Ledgers.{ledgered}

@@ -26,7 +26,7 @@ use Rattle.portals.specs.Readings.{Reached, reached, doing, complete, closing, f
 use Rattle.ledger.specs.Ledgers.{Ledger, ledgered}
 use Rattle.ledger.specs.Places.{kind_by, ledger_at, Fits}
 use Rattle.elements.specs.Rows.{phase_at, passing, sort_at, effect_at, opening_at, is_text_kind, Fitting}
-use Rattle.elements.specs.Goings.{Going, went, going_of, read_on, shown_by, reached_at, Ready, Entered, Gone, Done, opened_by, content_at, element_at, filling_at, holding_at, saying_at, entering_at}
+use Rattle.elements.specs.Goings.{Going, going_of, read_on, shown_by, reached_at, Ready, Entered, Gone, Done, opened_by, content_at, element_at, filling_at, holding_at, saying_at, entering_at}
 use Rattle.elements.proofs.Tables.{passed_is}
 use Rattle.elements.proofs.Goings.{shown_went, got_on, fault_on, same_on, on_stops, at_stops, got_goes, on_goes, at_returns, less_on, on_true, on_false, on_over, on_halts, on_turns}
 use Rattle.elements.proofs.Passings.{content_passed}

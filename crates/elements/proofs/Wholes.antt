@@ -7,7 +7,7 @@ use native.Mathlib.Omega.{arith}
 use lib.ListN.{length, drop, length-drop}
 use borrow.Author.Tests.{not-true, not-false}
 use Rattle.text.specs.Texts.{Text, bytes, part, same}
-use Rattle.documents.specs.Parts.{fault, malformed, Reader, ◌>>=◌, ◌>>◌, return, fault_at, whether, start_tag, order_mark, prolog, asides, ending}
+use Rattle.documents.specs.Parts.{malformed, Reader, ◌>>=◌, ◌>>◌, return, fault_at, whether, start_tag, order_mark, prolog, asides, ending}
 use Rattle.documents.proofs.Steps.{accepted, refused}
 use Rattle.documents.proofs.Leaves.{Leaves, leaves_then, start_tag_leaves, order_mark_leaves, prolog_leaves, asides_leaves}
 use Rattle.markup.specs.declared.answers.At.{At}
@@ -21,7 +21,7 @@ use Rattle.portals.specs.Readings.{Reached, reached, content_in, element_in, roo
 use Rattle.ledger.specs.Ledgers.{Ledger, ledgered, no_records}
 use Rattle.ledger.specs.Places.{ledger_at, Fits}
 use Rattle.elements.specs.Rows.{phase_at}
-use Rattle.elements.specs.Goings.{went, going_of, read_on, shown_by, reached_at, Ready, Gone, opened_by, filling_at, leading, trailing}
+use Rattle.elements.specs.Goings.{going_of, read_on, shown_by, reached_at, Ready, Gone, opened_by, filling_at, leading, trailing}
 use Rattle.elements.proofs.Goings.{fault_on, on_stops, at_stops, got_goes, on_goes, at_returns, on_true, on_false, regrouped, alike_behind}
 use Rattle.elements.proofs.Leavings.{leaves_fault, leaves_whether, filling_leaves, contents_leave}
 

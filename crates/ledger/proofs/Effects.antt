@@ -12,7 +12,7 @@ use mathlib.Core.Logic.{◌⊎◌, inl, inr}
 use lib.Arith.{digits_div, digits_mod}
 use lib.Dec.{leb, ltb}
 use borrow.Author.Tests.{lt-ltb, le-ltb, le-leb, lt-leb, leb-true, ne_eqb, not-true, not-false}
-use Rattle.text.specs.Texts.{Text, bytes, same, all, member, known, index_of}
+use Rattle.text.specs.Texts.{Text, same, all, member, known, index_of}
 use Rattle.text.specs.Bytes.{is_text, is_token, between}
 use Rattle.text.proofs.Truths.{and_left, and_right}
 use Rattle.text.proofs.Indices.{index_bound, index_member}

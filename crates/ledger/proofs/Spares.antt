@@ -2,7 +2,6 @@
 use mathlib.Core.Path.{◌≡◌, refl, ap, ◌∙◌}
 use mathlib.Core.Bool.{Bool, true, false, cond, ◌||◌}
 use mathlib.Core.List.{List, [], ◌∷◌, ◌++◌}
-use mathlib.Core.Option.{none}
 use Prim.Native.Nat.{ℕ, suc, ◌+◌, ◌≤◌}
 use native.Mathlib.Omega.{arith}
 use lib.ListN.{length}
@@ -10,7 +9,6 @@ use Rattle.text.specs.Texts.{Text, same, member, known}
 use Rattle.text.proofs.Truths.{never}
 use Rattle.text.proofs.Spans.{same_self, same_equal}
 use Rattle.text.proofs.Indices.{length-snoc}
-use Rattle.ledger.specs.Ledgers.{least}
 
 -- ---- texts that are none of others
 -- how many of the texts are none of us

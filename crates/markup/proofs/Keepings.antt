@@ -9,7 +9,7 @@ use lib.Dec.{eqb}
 use lib.ListN.{length, take, drop, get_or, set, length-drop}
 use Rattle.text.specs.Texts.{Text, run}
 use Rattle.documents.specs.Chars.{is_white, is_char, is_plain, next, after}
-use Rattle.documents.specs.Parts.{Got, got, fault, Reader, ◌>>=◌, ◌>>◌, return, blamed, letter_of, comment, goes_on, letters, trim_end, trimmed}
+use Rattle.documents.specs.Parts.{Got, got, Reader, ◌>>=◌, ◌>>◌, return, blamed, letter_of, comment, goes_on, letters, trim_end, trimmed}
 use Rattle.documents.proofs.Steps.{Ok, accepted, ok_got, ok_then, ok_whether, ok_blamed, run_then, run_true, run_false, run_blamed}
 use Rattle.documents.proofs.Loops.{Less}
 use Rattle.documents.proofs.Chars.{plain_not}

@@ -13,7 +13,7 @@ use Rattle.documents.proofs.Leaves.{Leaves, attributes_leaves}
 use Rattle.documents.proofs.Faults.{letter_once, blamed_once}
 use Rattle.markup.specs.declared.answers.At.{At}
 use Rattle.markup.specs.Places.{at, placed, read_at, read_or}
-use Rattle.markup.proofs.Places.{here, nothing_left, place}
+use Rattle.markup.proofs.Places.{here, nothing_left}
 use Rattle.markup.proofs.Steps.{numbered, went, stops, started}
 
 -- ---- an answer without a fault

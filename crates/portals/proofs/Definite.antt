@@ -10,7 +10,7 @@ use Rattle.text.specs.Texts.{Text}
 use Rattle.limits.specs.Limits.{most_bytes}
 use Rattle.worktable.specs.Work.{work_size, zeroed, work_after}
 use Rattle.documents.specs.Parts.{Fault}
-use Rattle.listings.specs.Refusals.{accepted, reading_of}
+use Rattle.listings.specs.Refusals.{reading_of}
 use Rattle.portals.specs.Listings.{written}
 use Rattle.portals.specs.Outcomes.{most_xml, fault_number, Handed, handed_of, buffer_after, FromOutcome}
 use Rattle.portals.specs.Demands.{LookedAt, StopsAt, ListedAs, Answered, table_too_short, file_too_long, faulty, listing_too_long, buffer_too_small, listing, DefiniteListing, EveryListingIsDefinite, WrittenIsAccepted, EveryListingIsAccepted}

@@ -1,7 +1,7 @@
 -- The listing that a file's records make, and its text.
-use Rattle.std.specs.Prelude.{Bool, true, false, cond}
-use mathlib.Core.List.{List, [], ◌∷◌, ◌++◌, flat_map}
-use Rattle.text.specs.Texts.{Text, bytes, newline, tab}
+use Rattle.std.specs.Prelude.{cond}
+use mathlib.Core.List.{List, [], ◌∷◌, ◌++◌}
+use Rattle.text.specs.Texts.{Text, bytes, newline}
 use Rattle.listings.specs.Records.{Record, is_kind}
 use Rattle.listings.specs.Refusals.{first_line}
 use Rattle.listings.specs.declared.records.Kind.{Kind}

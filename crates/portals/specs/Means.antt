@@ -1,6 +1,6 @@
 -- The meaning of a file: it spells a document of the right depth, whose elements are arranged as Elements says and give these records, none of which breaks a rule.
-use Rattle.std.specs.Prelude.{Bool, true, false, ◌&&◌, ◌||◌, List, [], ◌∷◌, ◌++◌, ◌≡◌, ℕ, ◌≤◌, eqb}
-use Rattle.std.proofs.Math.Option.{Option, none, some}
+use Rattle.std.specs.Prelude.{Bool, true, false, ◌||◌, List, [], ◌≡◌, ℕ, ◌≤◌, eqb}
+use Rattle.std.proofs.Math.Option.{some}
 use Rattle.text.specs.Texts.{Text, bytes}
 use Rattle.documents.specs.Chars.{is_white}
 use Rattle.documents.specs.Grammar as tree

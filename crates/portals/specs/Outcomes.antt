@@ -1,5 +1,5 @@
 -- What `budquarry_from_web_xml` hands back, and what it leaves in the listing's buffer and in the work table.
-use Rattle.std.specs.Prelude.{ℕ, suc, ◌-◌, ◌≡◌, Bool, cond, List, [], ◌∷◌, ◌++◌, length, take, drop, eqb, ltb}
+use Rattle.std.specs.Prelude.{ℕ, suc, ◌-◌, ◌≡◌, cond, List, [], ◌∷◌, ◌++◌, length, take, drop, eqb, ltb}
 use Rattle.text.specs.Texts.{Text, newline}
 use Rattle.limits.specs.Limits.{most_bytes}
 use Rattle.worktable.specs.Work.{is_short, work_after}

@@ -1,8 +1,8 @@
 -- The reader of a web.xml, from the first byte on: the records that the file gives, or the first fault and how many bytes are left where it stands. `proofs/` shows that it accepts exactly what Means says.
-use Rattle.std.specs.Prelude.{Bool, true, false, not, ◌||◌, List, [], ◌∷◌, ◌++◌, ℕ, zero, suc, eqb, length}
+use Rattle.std.specs.Prelude.{not, ◌||◌, List, [], ◌∷◌, ◌++◌, ℕ, zero, suc, eqb, length}
 use Rattle.std.proofs.Math.Option.{Option, none, some}
 use Rattle.text.specs.Texts.{Text, bytes, same}
-use Rattle.documents.specs.Chars.{is_white, next}
+use Rattle.documents.specs.Chars.{next}
 use Rattle.documents.specs.Parts.{Fault, malformed, deep, unwanted, Got, got, fault, Reader, ◌>>=◌, ◌>>◌, return, fault_at, whether, blamed, walk, choose, letter_of, comment, Opened, start_tag, second_tag, ends, letters, trimmed, order_mark, prolog, asides, ending}
 use Rattle.listings.specs.Records.{Record}
 use Rattle.portals.specs.Elements.{Phase, in_app, Opening, misplaced, refused, holds, says, Effect, nothing, guards, adds, sort_of, opening, is_complete}

@@ -1,5 +1,5 @@
 -- What a file gives, as the records of a listing in the file's order; and when a record breaks a rule of 01.
-use Rattle.std.specs.Prelude.{Bool, true, false, not, cond, ◌&&◌, ◌||◌, List, [], ◌∷◌, ◌++◌, ◌≡◌}
+use Rattle.std.specs.Prelude.{Bool, false, not, cond, ◌&&◌, ◌||◌, List, [], ◌∷◌, ◌++◌}
 use Rattle.std.proofs.Math.Option.{Option, none, some}
 use Rattle.text.specs.Texts.{Text, bytes}
 use Rattle.documents.specs.Parts.{Fault, badName, badPattern, roleTwice, pastMost}

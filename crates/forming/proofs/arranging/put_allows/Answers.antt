@@ -1,5 +1,4 @@
 use borrow.Author.Rules.{rules}
-use Prim.Native.Nat.{◌-◌}
 use Rattle.forming.proofs.Lefts.{left_all, done_place, done_bytes}
 use Rattle.forming.proofs.Orders.{record_writable, turn_low, allow_turn, allows_stop, allows_over}
 use Rattle.forming.proofs.arranging.put_allows.Goals as goal

@@ -1,5 +1,4 @@
 use borrow.Author.Rules.{rules}
-use Prim.Native.Nat.{◌-◌}
 use Rattle.forming.proofs.Lefts.{left_all, done_place, done_bytes}
 use Rattle.forming.proofs.Orders.{block_room, block_turn, blocks_over}
 use Rattle.forming.proofs.arranging.put_blocks.Goals as goal

@@ -1,5 +1,4 @@
 use borrow.Author.Rules.{rules}
-use Prim.Native.Nat.{◌-◌}
 use Rattle.ledger.proofs.Stamps.{index_start, index_hit, index_miss, index_none}
 use Rattle.ledger.proofs.searching.index.Goals as goal
 

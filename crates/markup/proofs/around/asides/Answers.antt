@@ -1,6 +1,5 @@
 use borrow.Author.Rules.{rules}
 use mathlib.Core.Path.{refl}
-use Prim.Native.Nat.{◌-◌}
 use Rattle.markup.proofs.Surroundings.{asides_over, asides_stops, asides_turns, asides_less}
 use Rattle.markup.proofs.around.asides.Goals as goal
 

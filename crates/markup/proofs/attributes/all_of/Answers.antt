@@ -1,6 +1,5 @@
 use borrow.Author.Rules.{rules}
 use mathlib.Core.Path.{refl}
-use Prim.Native.Nat.{◌-◌}
 use Rattle.markup.proofs.Loops.{attributes_over, attributes_stops, attributes_turns, attributes_less}
 use Rattle.markup.proofs.attributes.all_of.Goals as goal
 

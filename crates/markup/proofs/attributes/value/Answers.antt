@@ -1,6 +1,5 @@
 use borrow.Author.Rules.{rules}
 use mathlib.Core.Path.{refl}
-use Prim.Native.Nat.{◌-◌}
 use Rattle.markup.proofs.Loops.{value_closes, value_ends, value_plain, value_stops, value_turns, value_less}
 use Rattle.markup.proofs.attributes.value.Goals as goal
 

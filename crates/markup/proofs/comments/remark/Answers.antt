@@ -1,6 +1,5 @@
 use borrow.Author.Rules.{rules}
 use mathlib.Core.Path.{refl}
-use Prim.Native.Nat.{◌-◌}
 use Rattle.markup.proofs.Places.{remark_open, remark_closes, remark_hyphen, remark_wrong, remark_other}
 use Rattle.markup.proofs.comments.remark.Goals as goal
 

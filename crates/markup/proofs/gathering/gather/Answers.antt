@@ -1,5 +1,4 @@
 use borrow.Author.Rules.{rules}
-use Prim.Native.Nat.{◌-◌}
 use Rattle.markup.proofs.Keepings.{gather_start, gather_inside, gather_shorter, gather_few, gather_plain, gather_less, gather_on, gather_stops, gather_ends, gather_size, gather_text, stops_size, stops_text}
 use Rattle.markup.proofs.gathering.gather.Goals as goal
 

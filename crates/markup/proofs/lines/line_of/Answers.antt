@@ -1,5 +1,4 @@
 use borrow.Author.Rules.{rules}
-use Prim.Native.Nat.{◌-◌}
 use Rattle.markup.proofs.Counts.{count_start, count_few, count_more, count_all, end_inside}
 use Rattle.markup.proofs.lines.line_of.Goals as goal
 

@@ -1,6 +1,5 @@
 use borrow.Author.Rules.{rules}
 use mathlib.Core.Path.{refl}
-use Prim.Native.Nat.{◌-◌}
 use Rattle.markup.proofs.Places.{run_stops, run_goes, run_ends}
 use Rattle.markup.proofs.words.plain_end.Goals as goal
 

@@ -1,6 +1,5 @@
 use borrow.Author.Rules.{rules}
 use mathlib.Core.Path.{refl}
-use Prim.Native.Nat.{◌-◌}
 use Rattle.markup.proofs.Places.{word_short, word_other, word_same, word_done}
 use Rattle.markup.proofs.words.word.Goals as goal
 
