@@ -1,19 +1,20 @@
 // The files of the stored cases.
-ghost use Rattle.std.specs.Prelude.{◌≡◌, ◌%◌};
-ghost use Rattle.io.specs.Counts.{IsPrefixLen};
-ghost use Rattle.io.specs.Digits.{hex_digit_ascii};
-ghost use Rattle.edges.specs.Cases.{case_name};
+ghost use Rattle.std.specs.Prelude.{◌≡◌, ◌≤◌, length, IsUtf8};
+ghost use Rattle.edges.specs.Cases.{last_digit, case_name};
+
+use std::io::Read;
 
 // The last decimal digit of n.
 fn digit(n: usize) -> u8
-    ensures { result ≡ hex_digit_ascii (n % 10) }
+    ensures { result ≡ last_digit n }
 {
     48 + (n % 10) as u8
 }
 
 // The name of the file of case k.
 pub fn case_name(k: usize) -> [u8; 7]
-    ensures { result ≡ case_name k }
+    ensures bytes { result ≡ case_name k }
+    ensures text { IsUtf8 result }
 {
     [
         b'c',
@@ -26,11 +27,17 @@ pub fn case_name(k: usize) -> [u8; 7]
     ]
 }
 
-// Reads until buf is full or the file ends, and closes the file.
-pub fn read_and_close(fd: i32, buf: &mut [u8]) -> usize
-    ensures { IsPrefixLen result buf.new }
+// Reads until buf is full or the file ends, and closes the file. A read that fails counts as the file's end.
+pub fn read_and_close<R: Read + Drop>(mut file: R, buf: &mut [u8]) -> usize
+    ensures { result ≤ length buf.new }
 {
-    let n = io::read_full(fd, buf);
-    libc::close(fd);
-    n
+    let mut done = 0;
+    while done < buf.len() {
+        let n = file.read(&mut buf[done..]).unwrap_or(0);
+        if n == 0 {
+            break;
+        }
+        done += n;
+    }
+    done
 }
