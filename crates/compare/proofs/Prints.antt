@@ -4,9 +4,7 @@ use mathlib.Core.List.{List, ◌++◌}
 use Prim.Native.Nat.{ℕ, ◌+◌, ◌≤◌}
 use native.Mathlib.Omega.{arith}
 use lib.ListN.{length, drop, length-append}
-use lib.Seq.{length-take-le}
 use borrow.Author.Tests.{le-ltb}
-use Rattle.io.specs.Counts.{IsPrefixLen}
 use Rattle.text.specs.Texts.{Text}
 use Rattle.listings.specs.Refusals.{Reading, accepted, refusal, number_of, reading_of}
 use Rattle.listings.specs.declared.answers.Fault.{Fault}
@@ -15,12 +13,11 @@ use Rattle.comparisons.specs.declared.answers.Comparison.{Comparison}
 use Rattle.comparisons.specs.Outcomes.{Compared, refused_for, answered, compared, compared_new, compared_old, comparison_for, answer_for, comparison_of, answer_after, CompareOutcome}
 use Rattle.compare.specs.Printed.{refusal_line, written, printed_for, printed_of}
 
--- a text that is written counts as far as it goes
-pub written_counts : (t out out' : Text) (r : ℕ) → r ≡ length t → out' ≡ written t out → IsPrefixLen r out'
-written_counts t out out' r e p =
+-- a text that is written fits
+pub written_fits : (t out out' : Text) (r : ℕ) → r ≡ length t → out' ≡ written t out → r ≤ length out'
+written_fits t out out' r e p =
     let l : length out' ≡ length t + length (drop (length t) out) = ap length p ∙ length-append t (drop (length t) out) in
-    let h : r ≤ length out' = omega arith in
-    (h, sym (length-take-le r out' h))
+    omega arith
 
 -- ---- a refusal's number is never 0
 some_number : (f : Fault) → number_of f ≡ 0 → ⊥
@@ -82,8 +79,8 @@ module _ (old new answer : Text) (work : List ℕ) (room : 1024 ≤ length answe
     unfolding printed_of
     answer_bytes = leaves ∙ (zero_old old new answer (reading_of old) (sym number_of_lem ∙ none)).1
 
-    pub answer_counts : IsPrefixLen c.length left
-    answer_counts = written_counts (printed_of old new) answer left c.length answer_size_lem answer_bytes
+    pub answer_fits : c.length ≤ length left
+    answer_fits = written_fits (printed_of old new) answer left c.length answer_size_lem answer_bytes
 
   -- another number: the refusal's line is
   module _ (some : c.report.number ≡ 0 → ⊥) where

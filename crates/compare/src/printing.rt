@@ -1,7 +1,6 @@
 // The text that the program prints.
 ghost use Rattle.std.specs.Prelude.{◌≡◌, ◌∷◌, ◌+◌, ◌≤◌, length};
 ghost use Rattle.std.proofs.lemmas.List.Edits.{sets};
-ghost use Rattle.io.specs.Counts.{IsPrefixLen};
 ghost use Rattle.text.specs.Texts.{tab};
 ghost use Rattle.compare.specs.Printed.{decimal, where_text, refusal_line, written, PrintOutcome};
 
@@ -44,7 +43,7 @@ fn put_refusal(text: &mut [u8], number: u32, side: u32, line: u32) -> usize
 pub fn compare_into<'a>(old: &'a [u8], new: &'a [u8], text: &mut [u8], work: &mut [u32]) -> usize
     requires { (1024 ≤ length text.old) × (4096 ≤ length work.old) }
     ensures outcome { PrintOutcome old.now new.now text.old work.old result text.new work.new }
-    ensures fits { IsPrefixLen result text.new }
+    ensures fits { result ≤ length text.new }
 {
     let c = comparer::budquarry_compare(old, new, text, work);
     let r = c.report;

@@ -1,0 +1,9 @@
+-- What was read fits, and each turn leaves less room.
+use Rattle.std.proofs.Common.{◌≤◌, ◌-◌, length}
+use Rattle.compare.proofs.files.read_whole.Given as goal
+
+abbrev pub invariant-loop-done : goal.invariant-loop-done
+invariant-loop-done g l = l.done ≤ length l.buf
+
+abbrev pub decreases-loop-done : goal.decreases-loop-done
+decreases-loop-done g l = length l.buf - l.done
