@@ -1,5 +1,6 @@
-// A file's bytes. What stands in a file no contract says; that no more is taken than there is room for is proved.
-ghost use Rattle.std.specs.Prelude.{◌<◌, ◌≤◌, length};
+// A file's bytes. What stands in a file no contract says. That no more is taken than there is room for is proved, and of a reader whose bytes
+// are known, which of them are.
+ghost use Rattle.std.specs.Prelude.{◌≡◌, ◌<◌, ◌≤◌, length, take, IfSome};
 ghost use Rattle.limits.specs.Limits.{most_bytes};
 
 use std::fs::File;
@@ -8,8 +9,9 @@ use std::rt::Files;
 
 // Reads on until the file ends or buf is full, however few bytes come at a time. A file of which a read fails counts as no bytes,
 // as one that can't be opened does: its first bytes could be another listing, and a refusal is never a verdict.
-fn read_whole(file: &mut impl Read, buf: &mut [u8]) -> usize
-    ensures { result ≤ length buf.new }
+fn read_whole<R: Read>(file: &mut R, buf: &mut [u8]) -> usize
+    ensures fits { result ≤ length buf.new }
+    ensures bytes { 0 < result → IfSome (R.remaining file.old) (λ left. take result buf.new ≡ take (length buf.new) left) }
 {
     let mut done = 0;
     while done < buf.len() {
