@@ -6,7 +6,7 @@ use Rattle.documents.specs.Chars.{is_char, is_plain, is_quote, is_white, is_name
 
 -- the faults of a file: 17, 18, 19, and of what it says 6, 7, 9, 8
 pub data Fault : Type 0 where
-  malformed deep unwanted badName badPattern roleTwice pastMost : Fault
+  malformed deep unwanted bad_name bad_pattern role_twice past_most : Fault
 
 -- what was read and the text that is left; or a fault, and how many bytes are left there
 pub data Got (A : Type 0) : Type 0 where

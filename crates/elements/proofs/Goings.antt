@@ -9,7 +9,7 @@ use lib.ListN.{length, drop, take, length-drop, length-append, take-append-drop}
 use lib.Seq.{drop_at}
 use borrow.Author.Tests.{eq-eqb, ne_eqb}
 use Rattle.text.specs.Texts.{Text}
-use Rattle.documents.specs.Parts.{Fault, malformed, deep, unwanted, badName, badPattern, roleTwice, pastMost, Got, got, fault, Reader, ◌>>=◌, ◌>>◌, return, whether, walk}
+use Rattle.documents.specs.Parts.{Fault, malformed, deep, unwanted, bad_name, bad_pattern, role_twice, past_most, Got, got, fault, Reader, ◌>>=◌, ◌>>◌, return, whether, walk}
 use Rattle.documents.proofs.Steps.{Ok, accepted, refused, ok_got, run_then, run_true, run_false}
 use Rattle.documents.proofs.Loops.{Less, walk_step, walk_goes, walk_ends}
 use Rattle.documents.proofs.Leaves.{Leaves}
@@ -32,10 +32,10 @@ same_number : (e : Fault) → number e ≡ fault_number e
 same_number malformed = refl
 same_number deep = refl
 same_number unwanted = refl
-same_number badName = refl
-same_number badPattern = refl
-same_number roleTwice = refl
-same_number pastMost = refl
+same_number bad_name = refl
+same_number bad_pattern = refl
+same_number role_twice = refl
+same_number past_most = refl
 
 pub numbered : (e : Fault) → fault_number e ≡ 0 → ⊥
 numbered e h = steps.numbered e (same_number e ∙ h)

@@ -3,16 +3,16 @@ use Rattle.std.specs.Prelude.{ℕ, ◌<◌, ◌≡◌, Bool, true, cond, ◌||�
 use Rattle.text.specs.Texts.{bytes}
 use Rattle.documents.specs.Chars.{is_plain, is_white}
 use Rattle.listings.specs.declared.records.Kind.TheVariants.{Constraint, Collection}
-use Rattle.portals.specs.Elements.{Phase, in_app, inRole, inRoleNamed, inConstraint, inCollected, inGuarded, in_collection, inPatterned, inMethods, inOmissions, in_auth, passed_over, Sort, securityRole, securityConstraint, webResourceCollection, authConstraint, urlPattern, httpMethod, httpMethodOmission, roleName, refusedElement, otherElement, Effect, nothing, guards, adds, Opening, misplaced, refused, holds, says}
+use Rattle.portals.specs.Elements.{Phase, in_app, in_role, in_role_named, in_constraint, in_collected, in_guarded, in_collection, in_patterned, in_methods, in_omissions, in_auth, passed_over, Sort, security_role, security_constraint, web_resource_collection, auth_constraint, url_pattern, http_method, http_method_omission, role_name, refused_element, other_element, Effect, nothing, guards, adds, Opening, misplaced, refused, holds, says}
 use Rattle.ledger.specs.Places.{kind_by}
 use Rattle.elements.specs.declared.rows.Row.{Row}
 
--- the phase and the sort of a number, by phaseNumber and sortNumber
+-- the phase and the sort of a number, by `phase_number` and `sort_number`
 unfoldable pub phase_at : ℕ → Phase
-phase_at n = get_or (in_app ∷ inRole ∷ inRoleNamed ∷ inConstraint ∷ inCollected ∷ inGuarded ∷ in_collection ∷ inPatterned ∷ inMethods ∷ inOmissions ∷ in_auth ∷ passed_over ∷ []) n passed_over
+phase_at n = get_or (in_app ∷ in_role ∷ in_role_named ∷ in_constraint ∷ in_collected ∷ in_guarded ∷ in_collection ∷ in_patterned ∷ in_methods ∷ in_omissions ∷ in_auth ∷ passed_over ∷ []) n passed_over
 
 unfoldable pub sort_at : ℕ → Sort
-sort_at n = get_or (securityRole ∷ securityConstraint ∷ webResourceCollection ∷ authConstraint ∷ urlPattern ∷ httpMethod ∷ httpMethodOmission ∷ roleName ∷ refusedElement ∷ otherElement ∷ []) n otherElement
+sort_at n = get_or (security_role ∷ security_constraint ∷ web_resource_collection ∷ auth_constraint ∷ url_pattern ∷ http_method ∷ http_method_omission ∷ role_name ∷ refused_element ∷ other_element ∷ []) n other_element
 
 -- the bytes of text that may stand as they are in an element at that phase: white space, and where it is passed over all that stand for themselves
 abbrev pub passing : ℕ → ℕ → Bool

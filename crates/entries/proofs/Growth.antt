@@ -6,7 +6,7 @@ use Prim.Native.Nat.{ℕ, ◌+◌, ◌-◌, ◌^◌, ◌≤◌, ◌<◌}
 use native.Mathlib.Omega.{arith}
 use lib.ListN.{length, set, get_or, length-set}
 use lib.Bits.{bit_or, or_zero_l}
-use Rattle.text.specs.Texts.{Text, bytes, same, onLast, part, index_of}
+use Rattle.text.specs.Texts.{Text, bytes, same, on_last, part, index_of}
 use Rattle.listings.specs.Heads.{is_first_method}
 use Rattle.entries.specs.Tables.{Tables, Fits, packed, tables_at, region, texts_at, indexed, add_allow_to, add_method_to, add_role, add_constraint, add_allow, add_collection, add_pattern, add_method, add_omit, spanned, spans_at}
 use Rattle.names.specs.Names.{is_star}
@@ -15,7 +15,7 @@ use Rattle.listings.specs.declared.records.Stage.{Stage}
 use Rattle.listings.specs.declared.records.Stage.TheVariants.{AfterOpen, AfterAuth, AfterAllow, AfterMethod, AfterOmit}
 use Rattle.entries.specs.Tallies.{tally_at, tally_role, tally_constraint, tally_allowed, tally_collection, tally_pattern, tally_line, tally_method}
 use Rattle.entries.specs.declared.tables.Tally.{Tally}
-use Rattle.entries.proofs.Regions.{text_part, texts_append, texts_length, region_length, region_apart, region_append, region_last, on-last-same, indexed_known, indexed_new, span_part, spans_append, spans_length}
+use Rattle.entries.proofs.Regions.{text_part, texts_append, texts_length, region_length, region_apart, region_append, region_last, on_last_same, indexed_known, indexed_new, span_part, spans_append, spans_length}
 use Rattle.text.proofs.Indices.{index_bound}
 
 -- ---- tables with one list changed
@@ -54,7 +54,7 @@ with_accesses T x =
 -- tables with one `method` or `omit` line more: m, at stage p, and with the last collection's set changed by g
 abbrev lined : Tables → Text → Stage → (ℕ → ℕ) → Tables
 lined T m p g =
-    record { stage = p; lines = T.lines + 1; declared = T.declared; roles = T.roles; methods = indexed m T.methods; patterns = T.patterns; owners = T.owners; parents = T.parents; covers = onLast g T.covers; allows = T.allows; accesses = T.accesses }
+    record { stage = p; lines = T.lines + 1; declared = T.declared; roles = T.roles; methods = indexed m T.methods; patterns = T.patterns; owners = T.owners; parents = T.parents; covers = on_last g T.covers; allows = T.allows; accesses = T.accesses }
 
 -- ---- how many of each list there are
 module _ (s : Text) (t : Tally) (w : List ℕ) (f : Fits s t w) where
@@ -196,7 +196,7 @@ named s w base n a e h l k m =
 module _ (s : Text) (t : Tally) (w : List ℕ) (f : Fits s t w) where
   -- the last collection's set changed by g
   covered : (g : ℕ → ℕ) → tables_at s t (set w (448 + t.collections) (g (get_or w (448 + t.collections) 0)))
-      ≡ with_covers (tables_at s t w) (onLast g (tables_at s t w).covers)
+      ≡ with_covers (tables_at s t w) (on_last g (tables_at s t w).covers)
   unfolding tables_at
   covered g =
       in_covers s t w f (448 + t.collections) (g (get_or w (448 + t.collections) 0)) (omega arith) (omega arith)
@@ -204,7 +204,7 @@ module _ (s : Text) (t : Tally) (w : List ℕ) (f : Fits s t w) where
 
   -- the last constraint allows the roles of the set y too
   allowed : (y : ℕ) → tables_at s t (set (set w (580 + t.constraints) (bit_or (get_or w (580 + t.constraints) 0) y)) (650 + t.constraints) 2)
-      ≡ with_accesses (with_allows (tables_at s t w) (onLast (λ x. bit_or x y) (tables_at s t w).allows)) (onLast (λ x. 2) (tables_at s t w).accesses)
+      ≡ with_accesses (with_allows (tables_at s t w) (on_last (λ x. bit_or x y) (tables_at s t w).allows)) (on_last (λ x. 2) (tables_at s t w).accesses)
   unfolding tables_at
   allowed y =
       let c = t.constraints in
@@ -216,7 +216,7 @@ module _ (s : Text) (t : Tally) (w : List ℕ) (f : Fits s t w) where
       (in_allows s t w f (580 + c) u (omega arith) (omega arith)
       ∙ ap (with_allows (tables_at s t w)) (region_last w 580 c (λ x. bit_or x y) (omega arith)))
       (region_last v 650 c (λ x. 2) (omega (arith, length-set w (580 + c) u))
-      ∙ ap (onLast (λ x. 2)) (region_apart w 651 c (580 + c) u (omega arith)))
+      ∙ ap (on_last (λ x. 2)) (region_apart w 651 c (580 + c) u (omega arith)))
 
 -- the same where the counts are the table's own
 module _ (s : Text) (t : Tally) (w : List ℕ) (f : Fits s t w) where
@@ -262,7 +262,7 @@ module _ (s : Text) (t : Tally) (w : List ℕ) (f : Fits s t w) where
   unfolding tables_at
   star_grown n y =
       allowed s (tally_at t AfterAllow) w (omega arith) (lowest t.declared)
-      ∙ rw (on-last-same (λ x. bit_or x (lowest t.declared)) (add_allow_to (tables_at s t w) n) (region w 581 t.constraints) (λ x. rw y), y)
+      ∙ rw (on_last_same (λ x. bit_or x (lowest t.declared)) (add_allow_to (tables_at s t w) n) (region w 581 t.constraints) (λ x. rw y), y)
 
   -- `allow⇥NAME`, of a role that is known, and of a new one
   module _ (n : Text) (o : is_star n ≡ false) (i : ℕ) (q : i ≡ index_of n (texts_at s (region w 0 t.roles))) where
@@ -278,7 +278,7 @@ module _ (s : Text) (t : Tally) (w : List ℕ) (f : Fits s t w) where
     known_role_grown h =
         let k : index_of n (tables_at s t w).roles < length (tables_at s t w).roles = omega (arith, count_roles s t w f) in
         allowed s (tally_at t AfterAllow) w (omega arith) (with_member 0 i)
-        ∙ rw (on-last-same (λ x. bit_or x (with_member 0 i)) (add_allow_to (tables_at s t w) n) (region w 581 t.constraints) allow_set, o, indexed_known n _ k)
+        ∙ rw (on_last_same (λ x. bit_or x (with_member 0 i)) (add_allow_to (tables_at s t w) n) (region w 581 t.constraints) allow_set, o, indexed_known n _ k)
 
   -- a `method` or `omit` line whose method is known
   known_line : (m : Text) (p : Stage) (g : ℕ → ℕ) → t.lines < 512 → index_of m (tables_at s t w).methods < t.methods
@@ -301,7 +301,7 @@ module _ (s : Text) (t : Tally) (w : List ℕ) (f : Fits s t w) where
     unfolding tables_at
     known_method_grown fresh y l h =
         known_line m AfterMethod (λ x. with_member (cond fresh 0 x) i) l (omega arith)
-        ∙ rw (on-last-same (λ x. with_member (cond fresh 0 x) i) (add_method_to (tables_at s t w) m) (region w 449 t.collections) (method_set fresh y))
+        ∙ rw (on_last_same (λ x. with_member (cond fresh 0 x) i) (add_method_to (tables_at s t w) m) (region w 449 t.collections) (method_set fresh y))
 
     pub known_omit_grown : t.lines < 512 → i < t.methods
         → tables_at s (tally_line t AfterOmit) (set w (448 + t.collections) (without_member (get_or w (448 + t.collections) 0) i))
@@ -332,9 +332,9 @@ module _ (s : Text) (t : Tally) (w : List ℕ) (f : Fits s t w) (a e : ℕ) (fro
       = rw z (in_roles s u w (omega arith) (0 + t.roles) (packed s a e) (omega arith)
       ∙ ap (with_roles (tables_at s u w)) (named s w 0 t.roles a e (omega arith) from to short)) in
       allowed s u v fv (with_member 0 t.roles)
-      ∙ ap (λ (T : Tables). with_accesses (with_allows T (onLast (λ x. bit_or x (with_member 0 t.roles)) T.allows)) (onLast (λ x. 2) T.accesses)) r
+      ∙ ap (λ (T : Tables). with_accesses (with_allows T (on_last (λ x. bit_or x (with_member 0 t.roles)) T.allows)) (on_last (λ x. 2) T.accesses)) r
       ∙ rw (
-        on-last-same (λ x. bit_or x (with_member 0 t.roles)) (add_allow_to (tables_at s t w) (part a e s)) (region w 581 t.constraints)
+        on_last_same (λ x. bit_or x (with_member 0 t.roles)) (add_allow_to (tables_at s t w) (part a e s)) (region w 581 t.constraints)
             (allow_set s t w f (part a e s) o t.roles d),
         o,
         indexed_new (part a e s) _ l,
@@ -382,7 +382,7 @@ module _ (s : Text) (t : Tally) (w : List ℕ) (f : Fits s t w) (a e : ℕ) (fro
       let r : tables_at s u v ≡ with_methods (tables_at s u w) ((tables_at s t w).methods ++ part a e s ∷ [])
       = rw z (in_methods s u w (omega arith) (32 + t.methods) (packed s a e) (omega arith) (omega arith)
       ∙ ap (with_methods (tables_at s u w)) (named s w 32 t.methods a e (omega arith) from to short)) in
-      covered s u v fv g ∙ ap (λ (T : Tables). with_covers T (onLast g T.covers)) r ∙ rw (indexed_new (part a e s) _ l)
+      covered s u v fv g ∙ ap (λ (T : Tables). with_covers T (on_last g T.covers)) r ∙ rw (indexed_new (part a e s) _ l)
 
   module _ (i : ℕ) (b : t.lines < 512) (q : i ≡ index_of (part a e s) (texts_at s (region w 32 t.methods))) (k : t.methods ≤ i)
       (h : t.methods < 31) (v : List ℕ) (z : v ≡ set w (32 + t.methods) (packed s a e)) where
@@ -397,7 +397,7 @@ module _ (s : Text) (t : Tally) (w : List ℕ) (f : Fits s t w) (a e : ℕ) (fro
     unfolding tables_at
     new_method_grown fresh y =
         new_line AfterMethod (λ x. with_member (cond fresh 0 x) t.methods) i b q k h v z
-        ∙ rw (on-last-same (λ x. with_member (cond fresh 0 x) t.methods) (add_method_to (tables_at s t w) (part a e s)) (region w 449 t.collections)
+        ∙ rw (on_last_same (λ x. with_member (cond fresh 0 x) t.methods) (add_method_to (tables_at s t w) (part a e s)) (region w 449 t.collections)
         (method_set s t w f (part a e s) t.methods new_method fresh y))
 
     pub new_omit_grown : tables_at s (tally_method t AfterOmit)

@@ -12,7 +12,7 @@ use lib.Seq.{take-set-le, drop-set-lt, drop-set-add, take-suc, take-suc-set, get
 use lib.Arith.{digits_div, digits_mod}
 use borrow.Author.Tests.{lt-ltb, le-ltb, eq-eqb, ne_eqb, eqb-true, eqb-false, le-leb, lt-leb}
 use lib.Dec.{eqb}
-use Rattle.text.specs.Texts.{Text, same, starts_with, onLast, part, index_of}
+use Rattle.text.specs.Texts.{Text, same, starts_with, on_last, part, index_of}
 use Rattle.entries.specs.Tables.{region, stamp_of, packed, stamped, text_at, texts_at, Skips, indexed, spanned, span_at, spans_at}
 use Rattle.text.proofs.Truths.{not_so}
 use Rattle.text.proofs.Spans.{same_equal, same_lengths, starts_short, starts_same, from_on}
@@ -213,17 +213,17 @@ unfolding texts_at
 texts_length s xs = length-map xs (text_at s)
 
 -- ---- the last of a list
-pub on-last-snoc {ℓ} : {A : Type ℓ} (f : A → A) (xs : List A) (y : A) → onLast f (xs ++ y ∷ []) ≡ xs ++ f y ∷ []
-unfolding onLast
-on-last-snoc f [] y = refl
-on-last-snoc f (x ∷ []) y = refl
-on-last-snoc f (x ∷ z ∷ zs) y = ap (λ l. x ∷ l) (on-last-snoc f (z ∷ zs) y)
+pub on_last_snoc {ℓ} : {A : Type ℓ} (f : A → A) (xs : List A) (y : A) → on_last f (xs ++ y ∷ []) ≡ xs ++ f y ∷ []
+unfolding on_last
+on_last_snoc f [] y = refl
+on_last_snoc f (x ∷ []) y = refl
+on_last_snoc f (x ∷ z ∷ zs) y = ap (λ l. x ∷ l) (on_last_snoc f (z ∷ zs) y)
 
-pub on-last-same {ℓ} : {A : Type ℓ} (f g : A → A) (xs : List A) → ((x : A) → f x ≡ g x) → onLast f xs ≡ onLast g xs
-unfolding onLast
-on-last-same f g [] h = refl
-on-last-same f g (x ∷ []) h = ap (λ y. y ∷ []) (h x)
-on-last-same f g (x ∷ z ∷ zs) h = ap (λ l. x ∷ l) (on-last-same f g (z ∷ zs) h)
+pub on_last_same {ℓ} : {A : Type ℓ} (f g : A → A) (xs : List A) → ((x : A) → f x ≡ g x) → on_last f xs ≡ on_last g xs
+unfolding on_last
+on_last_same f g [] h = refl
+on_last_same f g (x ∷ []) h = ap (λ y. y ∷ []) (h x)
+on_last_same f g (x ∷ z ∷ zs) h = ap (λ l. x ∷ l) (on_last_same f g (z ∷ zs) h)
 
 -- ---- regions
 module _ (w : List ℕ) (a n : ℕ) where
@@ -264,8 +264,8 @@ module _ (w : List ℕ) (a n : ℕ) where
   region_at i h = rw (get_or-take, get_or-drop)
 
 -- a write at the last number changes it, where there is one
-pub region_last : (w : List ℕ) (a n : ℕ) (f : ℕ → ℕ) → a + n < length w → region (set w (a + n) (f (get_or w (a + n) 0))) (a + 1) n ≡ onLast f (region w (a + 1) n)
-unfolding region onLast
+pub region_last : (w : List ℕ) (a n : ℕ) (f : ℕ → ℕ) → a + n < length w → region (set w (a + n) (f (get_or w (a + n) 0))) (a + 1) n ≡ on_last f (region w (a + 1) n)
+unfolding region on_last
 region_last w a zero f h = refl
 region_last w a (suc n) f h =
     let e : a + suc n ≡ a + 1 + n = omega arith in
@@ -274,7 +274,7 @@ region_last w a (suc n) f h =
     rw e
     (ap (region (set w (a + 1 + n) (f (get_or w (a + 1 + n) 0))) (a + 1)) m
     ∙ region_append w (a + 1) n (f (get_or w (a + 1 + n) 0)) k
-    ∙ sym (ap (onLast f) (region_snoc w (a + 1) n k) ∙ on-last-snoc f (region w (a + 1) n) (get_or w (a + 1 + n) 0)))
+    ∙ sym (ap (on_last f) (region_snoc w (a + 1) n k) ∙ on_last_snoc f (region w (a + 1) n) (get_or w (a + 1 + n) 0)))
 
 -- ---- the search among the texts that a region's numbers name
 pub index_start : (t : Text) (us : List Text) (k : ℕ) → Skips t us 0 k → index_of t us ≡ k + index_of t (drop k us)

@@ -2,7 +2,7 @@
 use Rattle.std.specs.Prelude.{ℕ, ◌+◌, ◌-◌, ◌*◌, ◌/◌, ◌%◌, ◌≤◌, ◌≡◌, not, cond, List, [], ◌∷◌, ◌++◌, map, length, take, drop, get_or, eqb, ltb, leb}
 use Rattle.std.proofs.Math.Option.{Option, none, some}
 use Rattle.std.specs.Int.Bits.{bit_or}
-use Rattle.text.specs.Texts.{Text, bytes, same, run, onLast, part, index_of}
+use Rattle.text.specs.Texts.{Text, bytes, same, run, on_last, part, index_of}
 use Rattle.listings.specs.Records.{Record, may_follow}
 use Rattle.names.specs.Names.{is_star, is_role_name, is_name, is_method_name, is_pattern, is_constraint_kind}
 use Rattle.listings.specs.Heads.{is_first_method}
@@ -105,8 +105,8 @@ add_allow T n = record {
   owners = T.owners;
   parents = T.parents;
   covers = T.covers;
-  allows = onLast (add_allow_to T n) T.allows;
-  accesses = onLast (λ (x : ℕ). 2) T.accesses;
+  allows = on_last (add_allow_to T n) T.allows;
+  accesses = on_last (λ (x : ℕ). 2) T.accesses;
 }
 
 abbrev pub add_collection : Tables → Text → Tables
@@ -152,7 +152,7 @@ add_method T m = record {
   patterns = T.patterns;
   owners = T.owners;
   parents = T.parents;
-  covers = onLast (add_method_to T m) T.covers;
+  covers = on_last (add_method_to T m) T.covers;
   allows = T.allows;
   accesses = T.accesses;
 }
@@ -167,7 +167,7 @@ add_omit T m = record {
   patterns = T.patterns;
   owners = T.owners;
   parents = T.parents;
-  covers = onLast (λ (x : ℕ). without_member x (index_of m T.methods)) T.covers;
+  covers = on_last (λ (x : ℕ). without_member x (index_of m T.methods)) T.covers;
   allows = T.allows;
   accesses = T.accesses;
 }
@@ -189,7 +189,7 @@ add_end T t = record {
 
 -- what a record of that kind adds
 unfoldable pub field_add : Kind → Tables → Text → Tables
-unfolding index_of indexed onLast is_star same
+unfolding index_of indexed on_last is_star same
 field_add Role T t = add_role T t
 field_add Constraint T t = add_constraint T t
 field_add Allow T t = add_allow T t

@@ -13,7 +13,7 @@ use Rattle.text.proofs.Truths.{and_left, and_right, and_both}
 use Rattle.limits.specs.Limits.{most_bytes}
 use Rattle.worktable.specs.Work.{is_short, work_size, zeroed, work_after}
 use Rattle.worktable.proofs.Lent.{back_first, back_length, back_same, back_zeroed}
-use Rattle.documents.specs.Parts.{Fault, malformed, deep, unwanted, badName, badPattern, roleTwice, pastMost, Got, got, fault}
+use Rattle.documents.specs.Parts.{Fault, malformed, deep, unwanted, bad_name, bad_pattern, role_twice, past_most, Got, got, fault}
 use Rattle.markup.specs.Lines as lines
 use Rattle.markup.specs.Lines.{count}
 use Rattle.listings.specs.Records.{Record}
@@ -70,10 +70,10 @@ numbered : (e : Fault) → fault_number e ≡ 0 → ⊥
 numbered malformed h = omega arith
 numbered deep h = omega arith
 numbered unwanted h = omega arith
-numbered badName h = omega arith
-numbered badPattern h = omega arith
-numbered roleTwice h = omega arith
-numbered pastMost h = omega arith
+numbered bad_name h = omega arith
+numbered bad_pattern h = omega arith
+numbered role_twice h = omega arith
+numbered past_most h = omega arith
 
 -- its line
 ends_counted : (t : Text) → count newline t ≡ line_ends t

@@ -17,7 +17,7 @@ use Rattle.text.specs.Bytes.{is_text, is_token, between}
 use Rattle.text.proofs.Truths.{and_left, and_right}
 use Rattle.text.proofs.Indices.{index_bound, index_member}
 use Rattle.names.specs.Names.{made_of, is_name, is_star, is_role_name, is_method_name, is_pattern, is_constraint_kind}
-use Rattle.documents.specs.Parts.{Fault, badName, badPattern, roleTwice, pastMost}
+use Rattle.documents.specs.Parts.{Fault, bad_name, bad_pattern, role_twice, past_most}
 use Rattle.listings.specs.Records.{names_role}
 use Rattle.listings.specs.Fields.{name_fits, pattern_fits}
 use Rattle.listings.specs.declared.records.Kind.{Kind}
@@ -94,7 +94,7 @@ text_of s k p h = rw (ne_eqb k 1 h.0, ne_eqb k 2 h.1, ne_eqb k 4 h.2)
 module _ (s : Text) (w : List ℕ) (p : ℕ) (t : Text) (o : Offered s w 0 p t) (b : Bool) (good : b ≡ is_role_name t) where
   pub role_bad : not b ≡ true → Judged s w 0 p 6 w
   unfolding ledger_fault name_fits
-  role_bad y = refused s w 0 p t o badName (rw (← good, y))
+  role_bad y = refused s w 0 p t o bad_name (rw (← good, y))
 
   module _ (y : not b ≡ false) (d c : ℕ) (q : d ≡ index_of t (names_at s 3664 (get_or w 3703 0) w)) (n : c ≡ get_or w 3703 0) where
     declared_by_lem : member t (ledger_at s w).declared ≡ ltb d c
@@ -103,7 +103,7 @@ module _ (s : Text) (w : List ℕ) (p : ℕ) (t : Text) (o : Offered s w 0 p t) 
 
     pub role_twice : d < c → Judged s w 0 p 9 w
     unfolding ledger_fault name_fits pattern_fits
-    role_twice h = refused s w 0 p t o roleTwice (rw (← good, y, declared_by_lem, lt-ltb d c h))
+    role_twice h = refused s w 0 p t o role_twice (rw (← good, y, declared_by_lem, lt-ltb d c h))
 
     module _ (l : c ≤ d) (most : ℕ) (m : most ≡ 32) (i : ℕ) (e : i ≡ index_of t (names_at s 3600 (get_or w 3701 0) w)) where
       at_end : d ≡ c
@@ -115,15 +115,15 @@ module _ (s : Text) (w : List ℕ) (p : ℕ) (t : Text) (o : Offered s w 0 p t) 
       role_full =
           rw (new_by (ledger_at s w).roles t i 32 e (let k = W.roles_many s w o.fits in let f = o.fits in omega arith), W.declared_many s w o.fits, ← n, ← at_end)
 
-      role_fault : (x : Bool) → (leb 32 d || leb 32 i) ≡ x → ledger_fault (ledger_at s w) (record_of Role t) ≡ cond x (some pastMost) none
+      role_fault : (x : Bool) → (leb 32 d || leb 32 i) ≡ x → ledger_fault (ledger_at s w) (record_of Role t) ≡ cond x (some past_most) none
       unfolding ledger_fault name_fits pattern_fits
       role_fault x h = rw (← good, y, declared_by_lem, le-ltb d c l, role_full, h)
 
       pub role_past_declared : most ≤ d → Judged s w 0 p 8 w
-      role_past_declared h = refused s w 0 p t o pastMost (role_fault true (rw (le-leb 32 d (omega arith))))
+      role_past_declared h = refused s w 0 p t o past_most (role_fault true (rw (le-leb 32 d (omega arith))))
 
       pub role_past : d < most → most ≤ i → Judged s w 0 p 8 w
-      role_past g h = refused s w 0 p t o pastMost (role_fault true (rw (lt-leb 32 d (omega arith), le-leb 32 i (omega arith))))
+      role_past g h = refused s w 0 p t o past_most (role_fault true (rw (lt-leb 32 d (omega arith), le-leb 32 i (omega arith))))
 
       pub role_kept : (x : ℕ) (left : List ℕ) → d < most → i < most → x ≡ name_number p t
           → left ≡ with_record (p * 8 + 0) (with_name 3600 3701 i x (with_name 3664 3703 d x w)) → Judged s w 0 p 0 left
@@ -150,7 +150,7 @@ module _ (s : Text) (w : List ℕ) (p : ℕ) (t : Text) (o : Offered s w 0 p t) 
 module _ (s : Text) (w : List ℕ) (p : ℕ) (t : Text) (o : Offered s w 3 p t) (b : Bool) (good : b ≡ is_name t) where
   pub allow_bad : not b ≡ true → Judged s w 3 p 6 w
   unfolding ledger_fault name_fits
-  allow_bad y = refused s w 3 p t o badName (rw (← good, y))
+  allow_bad y = refused s w 3 p t o bad_name (rw (← good, y))
 
   module _ (y : not b ≡ false) (a : Bool) (k : a ≡ is_star t) where
     pub allow_star : (left : List ℕ) → a ≡ true → left ≡ with_record (p * 8 + 3) w → Judged s w 3 p 0 left
@@ -159,13 +159,13 @@ module _ (s : Text) (w : List ℕ) (p : ℕ) (t : Text) (o : Offered s w 3 p t) 
         rw z (taken s w 3 p t o w (ledger_at s w) o.fits refl (rw (← good, y, ← k, h)) (rw (← k, h)))
 
     module _ (h : a ≡ false) (i : ℕ) (e : i ≡ index_of t (names_at s 3600 (get_or w 3701 0) w)) (most : ℕ) (m : most ≡ 32) where
-      allow_fault : (x : Bool) → leb 32 i ≡ x → ledger_fault (ledger_at s w) (record_of Allow t) ≡ cond x (some pastMost) none
+      allow_fault : (x : Bool) → leb 32 i ≡ x → ledger_fault (ledger_at s w) (record_of Allow t) ≡ cond x (some past_most) none
       unfolding ledger_fault name_fits pattern_fits is_full ledger_at
       allow_fault x l =
           rw (← good, y, ← k, h, new_by (ledger_at s w).roles t i 32 e (let j = W.roles_many s w o.fits in let f = o.fits in omega arith), l)
 
       pub allow_past : most ≤ i → Judged s w 3 p 8 w
-      allow_past l = refused s w 3 p t o pastMost (allow_fault true (le-leb 32 i (omega arith)))
+      allow_past l = refused s w 3 p t o past_most (allow_fault true (le-leb 32 i (omega arith)))
 
       pub allow_kept : (x : ℕ) (u left : List ℕ) → i < most → x ≡ name_number p t → u ≡ with_name 3600 3701 i x w → left ≡ with_record (p * 8 + 3) u → Judged s w 3 p 0 left
       unfolding kept ledger_at names_role known field_by
@@ -182,15 +182,15 @@ module _ (s : Text) (w : List ℕ) (p : ℕ) (t : Text) (o : Offered s w 3 p t) 
 module _ (s : Text) (w : List ℕ) (p : ℕ) (t : Text) (o : Offered s w 5 p t) (b : Bool) (good : b ≡ is_pattern t) where
   pub pattern_bad : not b ≡ true → Judged s w 5 p 7 w
   unfolding ledger_fault name_fits pattern_fits
-  pattern_bad y = refused s w 5 p t o badPattern (rw (← good, y))
+  pattern_bad y = refused s w 5 p t o bad_pattern (rw (← good, y))
 
   module _ (y : not b ≡ false) (most n : ℕ) (m : most ≡ 128) (e : n ≡ get_or w 3706 0) where
-    pattern_fault : (x : Bool) → leb 128 n ≡ x → ledger_fault (ledger_at s w) (record_of Pattern t) ≡ cond x (some pastMost) none
+    pattern_fault : (x : Bool) → leb 128 n ≡ x → ledger_fault (ledger_at s w) (record_of Pattern t) ≡ cond x (some past_most) none
     unfolding ledger_fault name_fits pattern_fits is_full ledger_at
     pattern_fault x l = rw (← good, y, ← e, l)
 
     pub pattern_past : most ≤ n → Judged s w 5 p 8 w
-    pattern_past l = refused s w 5 p t o pastMost (pattern_fault true (le-leb 128 n (omega arith)))
+    pattern_past l = refused s w 5 p t o past_most (pattern_fault true (le-leb 128 n (omega arith)))
 
     pub pattern_kept : (u left : List ℕ) → n < most → u ≡ with_one 3706 w → left ≡ with_record (p * 8 + 5) u → Judged s w 5 p 0 left
     unfolding kept names_role
@@ -204,12 +204,12 @@ module _ (s : Text) (w : List ℕ) (p : ℕ) (f : Fits w) (file : length s ≤ 6
   unfolding field_by
   collection_offered = record { file = file; kind = omega arith; place = near; text = refl; fits = f }
 
-  collection_fault : (x : Bool) → leb 128 n ≡ x → ledger_fault (ledger_at s w) (record_of Collection []) ≡ cond x (some pastMost) none
+  collection_fault : (x : Bool) → leb 128 n ≡ x → ledger_fault (ledger_at s w) (record_of Collection []) ≡ cond x (some past_most) none
   unfolding ledger_fault name_fits pattern_fits is_full ledger_at
   collection_fault x l = rw (← e, l)
 
   pub collection_past : most ≤ n → Judged s w 4 p 8 w
-  collection_past l = refused s w 4 p [] collection_offered pastMost (collection_fault true (le-leb 128 n (omega arith)))
+  collection_past l = refused s w 4 p [] collection_offered past_most (collection_fault true (le-leb 128 n (omega arith)))
 
   pub collection_kept : (u left : List ℕ) → n < most → u ≡ with_one 3705 w → left ≡ with_record (p * 8 + 4) u → Judged s w 4 p 0 left
   unfolding kept names_role
@@ -238,12 +238,12 @@ module _ (s : Text) (w : List ℕ) (k p : ℕ) (f : Fits w) (from : 1 ≤ k) (to
   constraint_offered : Offered s w k p (field_by s k p)
   constraint_offered = record { file = file; kind = omega arith; place = near; text = refl; fits = f }
 
-  constraint_fault : (x : Bool) → leb 64 n ≡ x → ledger_fault (ledger_at s w) (record_of (kind_by k) (field_by s k p)) ≡ cond x (some pastMost) none
+  constraint_fault : (x : Bool) → leb 64 n ≡ x → ledger_fault (ledger_at s w) (record_of (kind_by k) (field_by s k p)) ≡ cond x (some past_most) none
   unfolding ledger_fault name_fits pattern_fits is_full ledger_at
   constraint_fault x l = rw (constraint_kind k from to, constraint_good s k p from to, ← e, l)
 
   pub constraint_past : most ≤ n → Judged s w k p 8 w
-  constraint_past l = refused s w k p (field_by s k p) constraint_offered pastMost (constraint_fault true (le-leb 64 n (omega arith)))
+  constraint_past l = refused s w k p (field_by s k p) constraint_offered past_most (constraint_fault true (le-leb 64 n (omega arith)))
 
   pub constraint_kept : (left : List ℕ) → n < most → left ≡ with_record (p * 8 + k) (with_one 3704 (with_last w)) → Judged s w k p 0 left
   unfolding kept names_role
@@ -266,13 +266,13 @@ method_kind k a b = go (dec_lt 6 k)
 
 -- of either kind
 module _ (L : Ledger) (K : Kind) (t : Text) where
-  line_bad : (K ≡ Method) ⊎ (K ≡ Omit) → is_method_name t ≡ false → ledger_fault L (record_of K t) ≡ some badName
+  line_bad : (K ≡ Method) ⊎ (K ≡ Omit) → is_method_name t ≡ false → ledger_fault L (record_of K t) ≡ some bad_name
   unfolding ledger_fault name_fits
   line_bad (inl e) y = rw (e, y)
   line_bad (inr e) y = rw (e, y)
 
   line_fault : (K ≡ Method) ⊎ (K ≡ Omit) → is_method_name t ≡ true → (x : Bool) → (leb 512 L.lines || (not (member t L.methods) && leb 31 (length L.methods))) ≡ x
-      → ledger_fault L (record_of K t) ≡ cond x (some pastMost) none
+      → ledger_fault L (record_of K t) ≡ cond x (some past_most) none
   unfolding ledger_fault name_fits pattern_fits is_full
   line_fault (inl e) y x h = rw (e, y, h)
   line_fault (inr e) y x h = rw (e, y, h)
@@ -287,16 +287,16 @@ module _ (s : Text) (w : List ℕ) (k p : ℕ) (t : Text) (o : Offered s w k p t
   either = method_kind k from o.kind
 
   pub method_bad : not b ≡ true → Judged s w k p 6 w
-  method_bad y = refused s w k p t o badName (line_bad (ledger_at s w) (kind_by k) t either (sym good ∙ not-true b y))
+  method_bad y = refused s w k p t o bad_name (line_bad (ledger_at s w) (kind_by k) t either (sym good ∙ not-true b y))
 
   module _ (y : not b ≡ false) (mostLines n : ℕ) (m : mostLines ≡ 512) (e : n ≡ get_or w 3707 0) where
     method_fault : (x : Bool) → (leb 512 n || (not (member t (ledger_at s w).methods) && leb 31 (length (ledger_at s w).methods))) ≡ x
-        → ledger_fault (ledger_at s w) (record_of (kind_by k) t) ≡ cond x (some pastMost) none
+        → ledger_fault (ledger_at s w) (record_of (kind_by k) t) ≡ cond x (some past_most) none
     unfolding ledger_at
     method_fault x h = line_fault (ledger_at s w) (kind_by k) t either (sym good ∙ not-false b y) x (rw (← e) h)
 
     pub line_past : mostLines ≤ n → Judged s w k p 8 w
-    line_past l = refused s w k p t o pastMost (method_fault true (rw (le-leb 512 n (omega arith))))
+    line_past l = refused s w k p t o past_most (method_fault true (rw (le-leb 512 n (omega arith))))
 
     module _ (l : n < mostLines) (i most : ℕ) (q : i ≡ index_of t (names_at s 3632 (get_or w 3702 0) w)) (g : most ≡ 31) where
       methods_by : (leb 512 n || (not (member t (ledger_at s w).methods) && leb 31 (length (ledger_at s w).methods))) ≡ leb 31 i
@@ -305,7 +305,7 @@ module _ (s : Text) (w : List ℕ) (k p : ℕ) (t : Text) (o : Offered s w k p t
           rw (lt-leb 512 n (omega arith), new_by (ledger_at s w).methods t i 31 q (let j = W.methods_many s w o.fits in let f = o.fits in omega arith))
 
       pub method_past : most ≤ i → Judged s w k p 8 w
-      method_past h = refused s w k p t o pastMost (method_fault true (methods_by ∙ le-leb 31 i (omega arith)))
+      method_past h = refused s w k p t o past_most (method_fault true (methods_by ∙ le-leb 31 i (omega arith)))
 
       pub method_kept : (x : ℕ) (left : List ℕ) → i < most → x ≡ name_number p t
           → left ≡ with_record (p * 8 + k) (with_name 3632 3702 i x (with_one 3707 w)) → Judged s w k p 0 left

@@ -11,7 +11,7 @@ use lib.Dec.{eqb, leb, ltb}
 use borrow.Author.Tests.{lt-ltb, le-ltb, le-leb, ne_eqb}
 use Rattle.text.specs.Texts.{Text, bytes}
 use Rattle.text.proofs.Truths.{never, or_left, or_right}
-use Rattle.text.proofs.Indices.{length-snoc}
+use Rattle.text.proofs.Indices.{length_snoc}
 use Rattle.listings.specs.Records.{Record, is_kind, names_role, names_method, fields_where, declared_in, roles_in, methods_in}
 use Rattle.listings.specs.Counts.{count}
 use Rattle.listings.specs.declared.records.Kind.{Kind}
@@ -37,7 +37,7 @@ taken_more rs r = go (dec_lt (length rs) 3600)
   where
     go : Dec (length rs < 3600) → cond (ltb (least 3601 (length rs)) 3600) (take 3600 rs ++ r ∷ []) (take 3600 rs) ≡ take 3600 (rs ++ r ∷ [])
     go (yes h) =
-        let e = length-snoc rs r in
+        let e = length_snoc rs r in
         rw (le-ltb 3601 (length rs) (omega arith), lt-ltb (length rs) 3600 h, take_all 3600 rs (omega arith), take_all 3600 (rs ++ r ∷ []) (omega arith))
     go (no h) = rw (take-append-le 3600 rs (r ∷ []) (omega arith)) (past (dec_lt 3601 (length rs)))
       where
@@ -72,7 +72,7 @@ kept_more rs r =
     rw (
       least_more (length rs),
       taken_more rs r,
-      length-snoc rs r,
+      length_snoc rs r,
       roles_snoc rs r,
       methods_snoc rs r,
       declared_snoc rs r,

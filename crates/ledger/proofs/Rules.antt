@@ -9,9 +9,9 @@ use lib.ListN.{length}
 use lib.Dec.{leb, ltb, leb-suc-suc}
 use borrow.Author.Tests.{lt-ltb, le-ltb, leb-true}
 use Rattle.text.specs.Texts.{Text, member, known}
-use Rattle.text.proofs.Indices.{length-snoc}
+use Rattle.text.proofs.Indices.{length_snoc}
 use Rattle.names.specs.Names.{is_star}
-use Rattle.documents.specs.Parts.{badName, badPattern, roleTwice, pastMost}
+use Rattle.documents.specs.Parts.{bad_name, bad_pattern, role_twice, past_most}
 use Rattle.listings.specs.Records.{Record, is_kind, names_role, names_method, fields_where, declared_in, roles_in, methods_in}
 use Rattle.listings.specs.Counts.{count, too_many}
 use Rattle.listings.specs.Refusals.{has_bad_name, has_bad_pattern, declares_again}
@@ -59,7 +59,7 @@ known_past us t m h = go (member t us) refl
   where
     go : (b : Bool) → member t us ≡ b → ltb m (length (known us t)) ≡ (not b && leb m (length us))
     go true e = rw (known_there us t e, le-ltb m (length us) h)
-    go false e = rw (known_new us t e, length-snoc us t, one_past m (length us))
+    go false e = rw (known_new us t e, length_snoc us t, one_past m (length us))
 
 or_none : (b : Bool) → (b || false) ≡ b
 or_none true = refl
@@ -116,7 +116,7 @@ module _ (rs : List Record) (h : too_many rs ≡ false) where
       go true e =
           let j = leb-true 32 (length (declared_in rs)) e in
           let k = spare_declared (declared_in rs) (roles_in rs) t n sp in
-          let i = length-snoc (declared_in rs) t in
+          let i = length_snoc (declared_in rs) t in
           sym (lt-ltb 32 (length (known (roles_in rs) t)) (omega arith))
       go false e = refl
 
@@ -151,8 +151,8 @@ module _ (rs : List Record) (L : Ledger) (p : Pictured rs L) (r : Record) where
   same_rule = rw p.is (go (has_bad_name r) (has_bad_pattern r) (declares_again rs r) refl)
     where
       go : (a b c : Bool) → declares_again rs r ≡ c
-          → cond a (some badName) (cond b (some badPattern) (cond c (some roleTwice) (cond (is_full (ledger_of rs) r) (some pastMost) none)))
-          ≡ cond a (some badName) (cond b (some badPattern) (cond c (some roleTwice) (cond (too_many (rs ++ r ∷ [])) (some pastMost) none)))
+          → cond a (some bad_name) (cond b (some bad_pattern) (cond c (some role_twice) (cond (is_full (ledger_of rs) r) (some past_most) none)))
+          ≡ cond a (some bad_name) (cond b (some bad_pattern) (cond c (some role_twice) (cond (too_many (rs ++ r ∷ [])) (some past_most) none)))
       go true b c e = refl
       go false true c e = refl
       go false false true e = refl
@@ -162,11 +162,11 @@ module _ (rs : List Record) (L : Ledger) (p : Pictured rs L) (r : Record) where
   unfolding first_fault
   picture_added n = record { is = ap (λ (M : Ledger). kept M r) p.is ∙ kept_more rs r; few = passes.1; spare = spare_more rs r passes.0 p.spare }
     where
-      go : (a b c d : Bool) → cond a (some badName) (cond b (some badPattern) (cond c (some roleTwice) (cond d (some pastMost) none))) ≡ none → (c ≡ false) × (d ≡ false)
-      go true b c d e = absurd (some-ne-none badName e)
-      go false true c d e = absurd (some-ne-none badPattern e)
-      go false false true d e = absurd (some-ne-none roleTwice e)
-      go false false false true e = absurd (some-ne-none pastMost e)
+      go : (a b c d : Bool) → cond a (some bad_name) (cond b (some bad_pattern) (cond c (some role_twice) (cond d (some past_most) none))) ≡ none → (c ≡ false) × (d ≡ false)
+      go true b c d e = absurd (some-ne-none bad_name e)
+      go false true c d e = absurd (some-ne-none bad_pattern e)
+      go false false true d e = absurd (some-ne-none role_twice e)
+      go false false false true e = absurd (some-ne-none past_most e)
       go false false false false e = (refl, refl)
 
       passes : (declares_again rs r ≡ false) × (too_many (rs ++ r ∷ []) ≡ false)

@@ -10,7 +10,7 @@ use borrow.Author.Tests.{leb-true}
 use Rattle.text.specs.Texts.{Text, bytes, newline, all}
 use Rattle.text.specs.Bytes.{is_text, is_token, between}
 use Rattle.text.proofs.Truths.{never, and_left}
-use Rattle.text.proofs.Indices.{length-snoc}
+use Rattle.text.proofs.Indices.{length_snoc}
 use Rattle.limits.specs.Limits.{most_bytes}
 use Rattle.names.specs.Names.{made_of, is_name, is_role_name, is_method_name}
 use Rattle.listings.specs.Records.{Record, is_kind}
@@ -28,7 +28,7 @@ made_full class hi t y = leb-true 1 (length t) (and_left (leb 1 (length t)) (leb
 line_length : (k : Kind) (t : Text) → length (line_of (record_of k t)) ≡ length (head_of k) + (length t + 1)
 unfolding line_of
 line_length k t =
-    let a : length (line_of (record_of k t)) ≡ suc (length (head_of k ++ t)) = length-snoc (head_of k ++ t) newline in
+    let a : length (line_of (record_of k t)) ≡ suc (length (head_of k ++ t)) = length_snoc (head_of k ++ t) newline in
     let b = length-append (head_of k) t in
     omega arith
 

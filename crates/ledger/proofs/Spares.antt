@@ -8,7 +8,7 @@ use lib.ListN.{length}
 use Rattle.text.specs.Texts.{Text, same, member, known}
 use Rattle.text.proofs.Truths.{never}
 use Rattle.text.proofs.Spans.{same_self, same_equal}
-use Rattle.text.proofs.Indices.{length-snoc}
+use Rattle.text.proofs.Indices.{length_snoc}
 
 -- ---- texts that are none of others
 -- how many of the texts are none of us
@@ -96,7 +96,7 @@ spare_named us vs t h = go (member t vs) refl
   where
     go : (b : Bool) → member t vs ≡ b → Spare us (known vs t)
     go true e = rw (known_there vs t e) h
-    go false e = rw (known_new vs t e, length-snoc vs t) (let k = outside_behind us vs t in omega arith)
+    go false e = rw (known_new vs t e, length_snoc vs t) (let k = outside_behind us vs t in omega arith)
 
 pub spare_declared : (us vs : List Text) (t : Text) → member t us ≡ false → Spare us vs → Spare (us ++ t ∷ []) (known vs t)
 spare_declared us vs t n h = go (member t vs) refl
@@ -105,5 +105,5 @@ spare_declared us vs t n h = go (member t vs) refl
     here = member_snoc t us t ∙ rw (n, same_self t)
 
     go : (b : Bool) → member t vs ≡ b → Spare (us ++ t ∷ []) (known vs t)
-    go true e = rw (known_there vs t e, length-snoc us t) (let k = outside_fewer us t vs n e in omega arith)
-    go false e = rw (known_new vs t e, length-snoc us t, length-snoc vs t, outside_met (us ++ t ∷ []) vs t here) (let k = outside_less us t vs in omega arith)
+    go true e = rw (known_there vs t e, length_snoc us t) (let k = outside_fewer us t vs n e in omega arith)
+    go false e = rw (known_new vs t e, length_snoc us t, length_snoc vs t, outside_met (us ++ t ∷ []) vs t here) (let k = outside_less us t vs in omega arith)

@@ -4,7 +4,7 @@ use Rattle.std.proofs.Math.Option.{Option, none, some}
 use Rattle.text.specs.Texts.{Text, bytes, member, known}
 use Rattle.limits.specs.Limits.{most_constraints, most_collections, most_patterns, most_method_lines, most_roles, most_methods}
 use Rattle.names.specs.Names.{is_star}
-use Rattle.documents.specs.Parts.{Fault, badName, badPattern, roleTwice, pastMost}
+use Rattle.documents.specs.Parts.{Fault, bad_name, bad_pattern, role_twice, past_most}
 use Rattle.listings.specs.Records.{Record, is_kind, names_role, names_method, declared_in, roles_in, methods_in}
 use Rattle.listings.specs.Counts.{count}
 use Rattle.listings.specs.Refusals.{has_bad_name, has_bad_pattern}
@@ -58,10 +58,10 @@ is_full L r = elim r.kind [
 unfoldable pub ledger_fault : Ledger → Record → Option Fault
 unfolding is_full member
 ledger_fault L r =
-    cond (has_bad_name r) (some badName)
-    (cond (has_bad_pattern r) (some badPattern)
-    (cond (is_kind Role r && member r.field L.declared) (some roleTwice)
-    (cond (is_full L r) (some pastMost)
+    cond (has_bad_name r) (some bad_name)
+    (cond (has_bad_pattern r) (some bad_pattern)
+    (cond (is_kind Role r && member r.field L.declared) (some role_twice)
+    (cond (is_full L r) (some past_most)
     none)))
 
 -- ---- one more record

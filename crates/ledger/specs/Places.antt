@@ -2,7 +2,7 @@
 use Rattle.std.specs.Prelude.{ℕ, ◌+◌, ◌-◌, ◌*◌, ◌/◌, ◌%◌, ◌≤◌, ◌<◌, ◌≡◌, cond, List, [], map, length, take, drop, get_or, set, eqb, ltb}
 use Rattle.std.proofs.Math.Option.{Option, none, some}
 use Rattle.text.specs.Texts.{Text, bytes}
-use Rattle.documents.specs.Parts.{Fault, badName, badPattern, got, fault, letters, trimmed}
+use Rattle.documents.specs.Parts.{Fault, bad_name, bad_pattern, got, fault, letters, trimmed}
 use Rattle.listings.specs.Records.{Record}
 use Rattle.listings.specs.declared.records.Kind.{Kind}
 use Rattle.listings.specs.declared.records.Kind.TheVariants.{Role, Constraint, Allow, Collection, Pattern, Method, Omit}
@@ -187,4 +187,4 @@ pub record Sought (s t : Text) : Type 0 where
 
 -- the rule that a text of over 255 bytes breaks
 abbrev pub long_fault : ℕ → Fault
-long_fault k = cond (eqb k 5) badPattern badName
+long_fault k = cond (eqb k 5) bad_pattern bad_name

@@ -5,7 +5,7 @@ use mathlib.Core.List.{List, [], ◌∷◌, ◌++◌}
 use Prim.Native.Nat.{suc}
 use lib.ListN.{length}
 use Rattle.text.specs.Texts.{Text, known, distinct}
-use Rattle.text.proofs.Indices.{run-snoc, length-snoc}
+use Rattle.text.proofs.Indices.{run_snoc, length_snoc}
 use Rattle.listings.specs.Records.{Record, stage_of, stage_after, is_kind, fields_where, names_role, names_method, declared_in, roles_in, methods_in}
 use Rattle.listings.specs.Counts.{count}
 use Rattle.listings.specs.declared.records.Kind.{Kind}
@@ -14,7 +14,7 @@ use Rattle.listings.specs.declared.records.Kind.TheVariants.{Role}
 -- a text more is put behind the distinct ones, unless it is one of them
 pub distinct_snoc : (ts : List Text) (t : Text) → distinct (ts ++ t ∷ []) ≡ known (distinct ts) t
 unfolding distinct
-distinct_snoc ts t = run-snoc known [] ts t
+distinct_snoc ts t = run_snoc known [] ts t
 
 -- ---- one record more
 -- the stage after it is its own
@@ -47,7 +47,7 @@ module _ (rs : List Record) (r : Record) where
     where
       go : (b : Bool) → length (cond b (fields_where (is_kind k) rs ++ r.field ∷ []) (fields_where (is_kind k) rs))
           ≡ cond b (suc (length (fields_where (is_kind k) rs))) (length (fields_where (is_kind k) rs))
-      go true = length-snoc (fields_where (is_kind k) rs) r.field
+      go true = length_snoc (fields_where (is_kind k) rs) r.field
       go false = refl
 
   -- `role` declares one role more

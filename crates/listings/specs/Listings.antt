@@ -2,7 +2,7 @@
 use Rattle.std.specs.Prelude.{Bool, true, false, not, cond, ◌&&◌, drop}
 use mathlib.Core.List.{List, [], ◌∷◌, ◌++◌, map, flat_map}
 use Rattle.std.proofs.Math.Option.{none, some}
-use Rattle.text.specs.Texts.{Text, bytes, same, member, run, onLast}
+use Rattle.text.specs.Texts.{Text, bytes, same, member, run, on_last}
 use Rattle.text.specs.Lines.{Line, lines_of}
 use Rattle.listings.specs.Records.{Record, formed, declared_in, roles_in, methods_in}
 use Rattle.listings.specs.declared.records.Kind.TheVariants.{Role, Constraint, Allow, Collection, Pattern, Method, Omit, End}
@@ -63,22 +63,22 @@ add_collection c = record {
 
 -- a change of the constraint's last collection
 abbrev pub in_collection : (Collected → Collected) → Constrained → Constrained
-in_collection f c = record { is_open = c.is_open; allowed = c.allowed; collections = onLast f c.collections }
+in_collection f c = record { is_open = c.is_open; allowed = c.allowed; collections = on_last f c.collections }
 
 abbrev pub new_constraint : Text → Constrained
 new_constraint word = record { is_open = same word (bytes "open"); allowed = []; collections = [] }
 
 -- `constraint` begins one; `allow` and `collection` belong to the last constraint; `pattern`, `method` and `omit` to its last collection
 unfoldable pub adds : List Constrained → Record → List Constrained
-unfolding onLast same
+unfolding on_last same
 adds cs r = elim r.kind [
   | Role ↦ cs
   | Constraint ↦ cs ++ new_constraint r.field ∷ []
-  | Allow ↦ onLast (add_allowed r.field) cs
-  | Collection ↦ onLast add_collection cs
-  | Pattern ↦ onLast (in_collection (add_pattern r.field)) cs
-  | Method ↦ onLast (in_collection (add_method r.field)) cs
-  | Omit ↦ onLast (in_collection (add_omitted r.field)) cs
+  | Allow ↦ on_last (add_allowed r.field) cs
+  | Collection ↦ on_last add_collection cs
+  | Pattern ↦ on_last (in_collection (add_pattern r.field)) cs
+  | Method ↦ on_last (in_collection (add_method r.field)) cs
+  | Omit ↦ on_last (in_collection (add_omitted r.field)) cs
   | End ↦ cs
 ]
 

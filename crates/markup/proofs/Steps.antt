@@ -10,7 +10,7 @@ use lib.Seq.{drop_at}
 use borrow.Author.Tests.{eq-eqb, ne_eqb}
 use Rattle.text.specs.Texts.{Text, starts_with}
 use Rattle.documents.specs.Chars.{is_white, after}
-use Rattle.documents.specs.Parts.{Got, got, fault, Fault, malformed, deep, unwanted, badName, badPattern, roleTwice, pastMost, Reader, ◌>>=◌, ◌>>◌, return, wrong, whether, choose, ends, word, white, many, walk}
+use Rattle.documents.specs.Parts.{Got, got, fault, Fault, malformed, deep, unwanted, bad_name, bad_pattern, role_twice, past_most, Reader, ◌>>=◌, ◌>>◌, return, wrong, whether, choose, ends, word, white, many, walk}
 use Rattle.documents.proofs.Steps.{Ok, accepted, refused, ok_got, run_then, run_true, run_false}
 use Rattle.documents.proofs.Loops.{Less, again, many_step, walk_step, walk_goes, walk_ends}
 use Rattle.documents.proofs.Leaves.{Leaves}
@@ -27,10 +27,10 @@ pub numbered : (e : Fault) → number e ≡ 0 → ⊥
 numbered malformed h = omega arith
 numbered deep h = omega arith
 numbered unwanted h = omega arith
-numbered badName h = omega arith
-numbered badPattern h = omega arith
-numbered roleTwice h = omega arith
-numbered pastMost h = omega arith
+numbered bad_name h = omega arith
+numbered bad_pattern h = omega arith
+numbered role_twice h = omega arith
+numbered past_most h = omega arith
 
 -- ---- one step
 module _ {A : Type 0} (m : Reader A) (s : Text) (i : ℕ) where

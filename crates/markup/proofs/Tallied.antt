@@ -10,7 +10,7 @@ use lib.ListN.{length, take, drop, set}
 use lib.Seq.{sets, take-set-le, take_at}
 use borrow.Author.Tests.{ne_eqb}
 use Rattle.text.specs.Texts.{Text, all, run}
-use Rattle.text.proofs.Indices.{run-snoc}
+use Rattle.text.proofs.Indices.{run_snoc}
 use Rattle.documents.specs.Chars.{is_white, next, after}
 use Rattle.documents.specs.Parts.{blamed, letter_of, comment, goes_on, piece, letters, trim_end, trimmed}
 use Rattle.documents.proofs.Alike.{Alike, both, alike_self, alike_then, alike_whether, walk_alike}
@@ -139,7 +139,7 @@ module _ (n : ℕ) (o : Text) where
   one_alike t z x e =
       alike_whether (next (eqb 60) x) _ _ _ _ x (alike_then comment comment _ _ x (alike_self (comment x)) (λ u v r h. both e))
       (alike_then (blamed n letter_of) (blamed n letter_of) _ _ x (alike_self (blamed n letter_of x))
-      (λ b c r h. both (ap (keeps z) (sym h) ∙ ap (λ (y : Tally). keeps y b) e ∙ sym (run-snoc keeps (nothing_kept o) t b))))
+      (λ b c r h. both (ap (keeps z) (sym h) ∙ ap (λ (y : Tally). keeps y b) e ∙ sym (run_snoc keeps (nothing_kept o) t b))))
 
   pub gathers_alike : (x : Text) → Alike Tallies (letters n x) (keep_all n (nothing_kept o) x)
   unfolding letters keep_all run

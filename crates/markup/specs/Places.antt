@@ -1,7 +1,7 @@
 -- What the code hands back: whether there is a fault, and a place. It is the list reader's answer, with places counted from the start of the text.
 use Rattle.std.specs.Prelude.{◌≡◌, Bool, false, cond, ◌||◌, ℕ, ◌+◌, ◌-◌, ◌≤◌, eqb, length, drop}
 use Rattle.text.specs.Texts.{Text, bytes, part}
-use Rattle.documents.specs.Parts.{Fault, malformed, deep, unwanted, badName, badPattern, roleTwice, pastMost, Got, got, fault, Reader, ◌>>◌, word, name, remark, white, attributes, tag_end, start_tag}
+use Rattle.documents.specs.Parts.{Fault, malformed, deep, unwanted, bad_name, bad_pattern, role_twice, past_most, Got, got, fault, Reader, ◌>>◌, word, name, remark, white, attributes, tag_end, start_tag}
 use Rattle.markup.specs.declared.answers.At.{At}
 use Rattle.markup.specs.declared.answers.Letter.{Letter}
 use Rattle.markup.specs.declared.answers.Ended.{Ended}
@@ -15,10 +15,10 @@ abbrev pub number : Fault → ℕ
 number malformed = 17
 number deep = 18
 number unwanted = 19
-number badName = 6
-number badPattern = 7
-number roleTwice = 9
-number pastMost = 8
+number bad_name = 6
+number bad_pattern = 7
+number role_twice = 9
+number past_most = 8
 
 -- an answer, in a text of so many bytes
 abbrev pub placed : {A : Type 0} → ℕ → Got A → At

@@ -14,7 +14,7 @@ use Rattle.trials.specs.Fillers.{filler_method}
 use Rattle.trials.specs.Trials.{further, joined, methods_tried}
 use Rattle.grants.specs.Sides.{PairsOf, PairedUp}
 use Rattle.trials.proofs.Bounds.{unnamed_in_both}
-use Rattle.text.proofs.Indices.{index_member, length-snoc, index_bound}
+use Rattle.text.proofs.Indices.{index_member, length_snoc, index_bound}
 
 -- ---- one pair more
 -- the numbers a, b of a text put behind those of the texts ms
@@ -25,12 +25,12 @@ module _ (us ms : List Text) (t : Text) (pairs : List ℕ) (a b n : ℕ) (z : le
   -- the first numbers
   more_firsts : a ≡ index_of t us → ((i : ℕ) → i < length ms → get_or pairs i 0 ≡ index_of (get_or ms i []) us)
       → (i : ℕ) → i < length (ms ++ t ∷ []) → get_or (with_pair n a b pairs) i 0 ≡ index_of (get_or (ms ++ t ∷ []) i []) us
-  more_firsts e f i h = get_or-set_other (set pairs n a) (64 + n) i b 0 (λ q. omega (arith, length-snoc ms t)) ∙ go (dec_lt i (length ms))
+  more_firsts e f i h = get_or-set_other (set pairs n a) (64 + n) i b 0 (λ q. omega (arith, length_snoc ms t)) ∙ go (dec_lt i (length ms))
     where
       go : Dec (i < length ms) → get_or (set pairs n a) i 0 ≡ index_of (get_or (ms ++ t ∷ []) i []) us
       go (yes l) = get_or-set_other pairs n i a 0 (λ q. omega arith) ∙ f i l ∙ ap (λ (u : Text). index_of u us) (sym (get_or-append ms (t ∷ []) [] i l))
       go (no l) =
-          let q : i ≡ length ms = omega (arith, length-snoc ms t) in
+          let q : i ≡ length ms = omega (arith, length_snoc ms t) in
           rw (q, n-is, get_or-append_seam ms t [] []) (get_or-set_same pairs (length ms) a 0 (omega arith) ∙ e)
 
   -- the second ones
@@ -43,7 +43,7 @@ module _ (us ms : List Text) (t : Text) (pairs : List ℕ) (a b n : ℕ) (z : le
           get_or-set_other (set pairs n a) (64 + n) (64 + i) b 0 (λ q. omega arith) ∙ get_or-set_other pairs n (64 + i) a 0 (λ q. omega arith)
           ∙ f i l ∙ ap (λ (u : Text). index_of u us) (sym (get_or-append ms (t ∷ []) [] i l))
       go (no l) =
-          let q : i ≡ length ms = omega (arith, length-snoc ms t) in
+          let q : i ≡ length ms = omega (arith, length_snoc ms t) in
           rw (q, n-is, get_or-append_seam ms t [] []) (get_or-set_same (set pairs (length ms) a) (64 + length ms) b 0 (omega (arith, length-set pairs (length ms) a)) ∙ e)
 
 module _ (os ns ms : List Text) (t : Text) (pairs : List ℕ) (a b n : ℕ) (U : PairedUp os ns ms pairs) (n-is : n ≡ length ms) (p : a ≡ index_of t os) (q : b ≡ index_of t ns) where
@@ -55,7 +55,7 @@ module _ (os ns ms : List Text) (t : Text) (pairs : List ℕ) (a b n : ℕ) (U :
   pair_more : n ≤ 61 → PairedUp os ns (ms ++ t ∷ []) (with_pair n a b pairs)
   pair_more h = record {
     size = pair_size;
-    few = omega (arith, length-snoc ms t);
+    few = omega (arith, length_snoc ms t);
     olds = more_firsts os ms t pairs a b n U.size n-is (omega arith) p U.olds;
     news = more_seconds ns ms t pairs a b n U.size n-is (omega arith) q U.news;
   }
@@ -173,7 +173,7 @@ module _ (os ns : List Text) where
             (rw e (sym (once j here))) (own_is ∙ unfound m ns (omega arith)) (omega (arith, P.few.0, P.few.1, P.few.2)) in
             record {
               up = rw d U;
-              count_is = rw d (omega (arith, P.count_is, length-snoc (joined ns (take j os)) m));
+              count_is = rw d (omega (arith, P.count_is, length_snoc (joined ns (take j os)) m));
               so_far = omega arith;
               few = (omega (arith, P.few.0), P.few.1, P.few.2);
               size = U.size;
@@ -206,7 +206,7 @@ module _ (os ns : List Text) where
       let u = unnamed_in_both os ns h l in
       let p : a ≡ index_of filler os = a-is ∙ filler_index os u.1 in
       let q : b ≡ index_of filler ns = b-is ∙ filler_index ns u.0 in
-      let z : count + 1 ≡ length (joined ns os ++ filler ∷ []) = omega (arith, length-snoc (joined ns os) filler) in
+      let z : count + 1 ≡ length (joined ns os ++ filler ∷ []) = omega (arith, length_snoc (joined ns os) filler) in
       record {
         size = pair_size os ns (joined ns os) filler pairs a b count U c p q;
         all = z;

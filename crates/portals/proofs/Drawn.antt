@@ -3,7 +3,7 @@ use mathlib.Core.Path.{◌≡◌, refl, sym, ap, ap₂, ◌∙◌}
 use mathlib.Core.Bool.{Bool, true, false, cond}
 use mathlib.Core.List.{List, [], ◌∷◌, ◌++◌, flat_map, append-nil}
 use lib.Seq.{append_snoc}
-use Rattle.text.specs.Texts.{Text, bytes, same, run, onLast}
+use Rattle.text.specs.Texts.{Text, bytes, same, run, on_last}
 use Rattle.listings.specs.Records.{Record, is_kind, fields_where, declared_in}
 use Rattle.listings.specs.Listings.{Collected, Constrained, adds, constraints_in}
 use Rattle.listings.specs.declared.records.Kind.TheVariants.{Role, Allow, Pattern, Method, Omit, End}
@@ -58,16 +58,16 @@ declared_given (constrains k ∷ I) =
     ∙ ap₂ ◌++◌ (fields_none (is_kind Role) (as_given k) (no_role_given k)) (declared_given I)
 
 -- ---- the constraints
-run-append {ℓ κ} : {S : Type ℓ} {A : Type κ} (f : S → A → S) (z : S) (xs ys : List A) → run f z (xs ++ ys) ≡ run f (run f z xs) ys
+run_append {ℓ κ} : {S : Type ℓ} {A : Type κ} (f : S → A → S) (z : S) (xs ys : List A) → run f z (xs ++ ys) ≡ run f (run f z xs) ys
 unfolding run
-run-append f z [] ys = refl
-run-append f z (x ∷ xs) ys = run-append f (f z x) xs ys
+run_append f z [] ys = refl
+run_append f z (x ∷ xs) ys = run_append f (f z x) xs ys
 
-on_last : {A : Type 0} (f : A → A) (xs : List A) (y : A) → onLast f (xs ++ y ∷ []) ≡ xs ++ f y ∷ []
-unfolding onLast
-on_last f [] y = refl
-on_last f (x ∷ []) y = refl
-on_last f (x ∷ z ∷ zs) y = ap (λ l. x ∷ l) (on_last f (z ∷ zs) y)
+on_last_lem : {A : Type 0} (f : A → A) (xs : List A) (y : A) → on_last f (xs ++ y ∷ []) ≡ xs ++ f y ∷ []
+unfolding on_last
+on_last_lem f [] y = refl
+on_last_lem f (x ∷ []) y = refl
+on_last_lem f (x ∷ z ∷ zs) y = ap (λ l. x ∷ l) (on_last_lem f (z ∷ zs) y)
 
 abbrev collected : List Text → List Text → List Text → Collected
 collected ps ms os = record { patterns = ps; methods = ms; omitted = os }
@@ -85,8 +85,8 @@ module _ (ks : List Constrained) (o : Bool) (ns : List Text) where
   and cs c = with (cs ++ c ∷ [])
 
   changed : (f : Collected → Collected) (cs : List Collected) (c : Collected)
-      → onLast (λ (k : Constrained). constrained k.is_open k.allowed (onLast f k.collections)) (and cs c) ≡ and cs (f c)
-  changed f cs c = on_last _ ks (constrained o ns (cs ++ c ∷ [])) ∙ ap with (on_last f cs c)
+      → on_last (λ (k : Constrained). constrained k.is_open k.allowed (on_last f k.collections)) (and cs c) ≡ and cs (f c)
+  changed f cs c = on_last_lem _ ks (constrained o ns (cs ++ c ∷ [])) ∙ ap with (on_last_lem f cs c)
 
   run_patterns : (cs : List Collected) (ps ms os ts : List Text) → run adds (and cs (collected ps ms os)) (of_kind Pattern ts) ≡ and cs (collected (ps ++ ts) ms os)
   unfolding run adds
@@ -113,10 +113,10 @@ module _ (ks : List Constrained) (o : Bool) (ns : List Text) where
   run_collection : (cs : List Collected) (c : Collected) → run adds (with cs) (of_collection c) ≡ with (cs ++ c ∷ [])
   unfolding run adds
   run_collection cs c =
-      ap (λ (x : List Constrained). run adds x (under_collection c)) (on_last _ ks (constrained o ns cs))
-      ∙ run-append adds (and cs (collected [] [] [])) (of_kind Pattern c.patterns) _
+      ap (λ (x : List Constrained). run adds x (under_collection c)) (on_last_lem _ ks (constrained o ns cs))
+      ∙ run_append adds (and cs (collected [] [] [])) (of_kind Pattern c.patterns) _
       ∙ ap (λ (x : List Constrained). run adds x (of_kind Method c.methods ++ of_kind Omit c.omitted)) (run_patterns cs [] [] [] c.patterns)
-      ∙ run-append adds (and cs (collected c.patterns [] [])) (of_kind Method c.methods) _
+      ∙ run_append adds (and cs (collected c.patterns [] [])) (of_kind Method c.methods) _
       ∙ ap (λ (x : List Constrained). run adds x (of_kind Omit c.omitted)) (run_methods cs c.patterns [] [] c.methods)
       ∙ run_omitted cs c.patterns c.methods [] c.omitted
 
@@ -124,7 +124,7 @@ module _ (ks : List Constrained) (o : Bool) (ns : List Text) where
   unfolding run flat_map
   run_collections cs [] = ap with (sym (append-nil cs))
   run_collections cs (d ∷ ds) =
-      run-append adds (with cs) (of_collection d) (of_collections ds)
+      run_append adds (with cs) (of_collection d) (of_collections ds)
       ∙ ap (λ (x : List Constrained). run adds x (of_collections ds)) (run_collection cs d)
       ∙ run_collections (cs ++ d ∷ []) ds ∙ ap with (append_snoc cs d ds)
 
@@ -133,7 +133,7 @@ run_allowed : (ks : List Constrained) (o : Bool) (ns ts : List Text) → run add
 unfolding run adds
 run_allowed ks o ns [] = ap (λ (x : List Text). ks ++ constrained o x [] ∷ []) (sym (append-nil ns))
 run_allowed ks o ns (t ∷ ts) =
-    ap (λ (x : List Constrained). run adds x (of_kind Allow ts)) (on_last _ ks (constrained o ns []))
+    ap (λ (x : List Constrained). run adds x (of_kind Allow ts)) (on_last_lem _ ks (constrained o ns []))
     ∙ run_allowed ks o (ns ++ t ∷ []) ts ∙ ap (λ (x : List Text). ks ++ constrained o x [] ∷ []) (append_snoc ns t ts)
 
 -- `open` is open, `auth` is not
@@ -147,7 +147,7 @@ run_constraint : (ks : List Constrained) (k : Constrained) → run adds ks (as_l
 unfolding run adds
 run_constraint ks k =
     ap (λ (b : Bool). run adds (ks ++ constrained b [] [] ∷ []) (of_kind Allow k.allowed ++ of_collections k.collections)) (head_tells k.is_open)
-    ∙ run-append adds (ks ++ constrained k.is_open [] [] ∷ []) (of_kind Allow k.allowed) _
+    ∙ run_append adds (ks ++ constrained k.is_open [] [] ∷ []) (of_kind Allow k.allowed) _
     ∙ ap (λ (x : List Constrained). run adds x (of_collections k.collections)) (run_allowed ks k.is_open [] k.allowed)
     ∙ run_collections ks k.is_open k.allowed [] k.collections
 
@@ -155,7 +155,7 @@ run_constraints : (js ks : List Constrained) → run adds js (flat_map as_listed
 unfolding run flat_map
 run_constraints js [] = sym (append-nil js)
 run_constraints js (k ∷ ks) =
-    run-append adds js (as_listed k) (flat_map as_listed ks)
+    run_append adds js (as_listed k) (flat_map as_listed ks)
     ∙ ap (λ (x : List Constrained). run adds x (flat_map as_listed ks)) (run_constraint js k)
     ∙ run_constraints (js ++ k ∷ []) ks ∙ append_snoc js k ks
 
@@ -167,7 +167,7 @@ run_roles js (n ∷ ns) = run_roles js ns
 pub constraints_drawn : (ns : List Text) (ks : List Constrained) → constraints_in (records_for ns ks ++ record_of End [] ∷ []) ≡ ks
 unfolding constraints_in run adds
 constraints_drawn ns ks =
-    run-append adds [] (records_for ns ks) (record_of End [] ∷ [])
-    ∙ run-append adds [] (of_kind Role ns) (flat_map as_listed ks)
+    run_append adds [] (records_for ns ks) (record_of End [] ∷ [])
+    ∙ run_append adds [] (of_kind Role ns) (flat_map as_listed ks)
     ∙ ap (λ (x : List Constrained). run adds x (flat_map as_listed ks)) (run_roles [] ns)
     ∙ run_constraints [] ks

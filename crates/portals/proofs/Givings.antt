@@ -15,7 +15,7 @@ use Rattle.listings.specs.Records.{Record, is_kind}
 use Rattle.listings.specs.Listings.{Collected, Constrained}
 use Rattle.listings.specs.declared.records.Kind.{Kind}
 use Rattle.listings.specs.declared.records.Kind.TheVariants.{Role, Constraint, Allow, Collection, Pattern, Method, Omit}
-use Rattle.portals.specs.Elements.{Sort, otherElement, sort_of, Phase, in_app, inRole, inRoleNamed, inConstraint, inCollected, inGuarded, in_collection, inPatterned, inMethods, inOmissions, in_auth, passed_over, Effect, holds, says, is_complete}
+use Rattle.portals.specs.Elements.{Sort, other_element, sort_of, Phase, in_app, in_role, in_role_named, in_constraint, in_collected, in_guarded, in_collection, in_patterned, in_methods, in_omissions, in_auth, passed_over, Effect, holds, says, is_complete}
 use Rattle.portals.specs.Records.{record_of, first_fault, any_constraint, guarded, added, effected}
 use Rattle.portals.specs.Means.{text_of, Gives, over, passing, remarking, holding, saying}
 use Rattle.portals.specs.Plainly.{named, texts_named, has_none, collection_of, constraint_of, roles_in, constraints_in}
@@ -76,15 +76,15 @@ Grows k rs rs' = (before mid : List Record) → any_constraint mid ≡ false →
 -- a content that begins at phase p and ends at phase q, with the elements S by name and the items I, leads from the records rs to rs'
 abbrev Claim : Phase → Seen → List Item → Phase → List Record → List Record → Type 0
 Claim in_app S I q rs rs' = (rs' ≡ rs ++ flat_map given_by I) × Each ShapedItem I
-Claim inRole S I q rs rs' = rs' ≡ rs ++ of_kind Role (texts_by S (bytes "role-name"))
-Claim inRoleNamed S I q rs rs' = rs' ≡ rs ++ of_kind Role (texts_by S (bytes "role-name"))
-Claim inConstraint S I q rs rs' = is_complete q ≡ true → Grows (constraint_by S) rs rs' × Shaped (constraint_by S)
-Claim inCollected S I q rs rs' = Grows (constraint_by S) rs rs' × (has_none (S (bytes "auth-constraint")) ≡ true → (constraint_by S).allowed ≡ []) × Each ShapedCollection (constraint_by S).collections
-Claim inGuarded S I q rs rs' = (rs' ≡ rs) × (S (bytes "auth-constraint") ≡ []) × (S (bytes "web-resource-collection") ≡ [])
+Claim in_role S I q rs rs' = rs' ≡ rs ++ of_kind Role (texts_by S (bytes "role-name"))
+Claim in_role_named S I q rs rs' = rs' ≡ rs ++ of_kind Role (texts_by S (bytes "role-name"))
+Claim in_constraint S I q rs rs' = is_complete q ≡ true → Grows (constraint_by S) rs rs' × Shaped (constraint_by S)
+Claim in_collected S I q rs rs' = Grows (constraint_by S) rs rs' × (has_none (S (bytes "auth-constraint")) ≡ true → (constraint_by S).allowed ≡ []) × Each ShapedCollection (constraint_by S).collections
+Claim in_guarded S I q rs rs' = (rs' ≡ rs) × (S (bytes "auth-constraint") ≡ []) × (S (bytes "web-resource-collection") ≡ [])
 Claim in_collection S I q rs rs' = is_complete q ≡ true → (rs' ≡ rs ++ under_collection (collection_by S)) × ShapedCollection (collection_by S)
-Claim inPatterned S I q rs rs' = (rs' ≡ rs ++ under_collection (collection_by S)) × (((collection_by S).methods ≡ []) ⊎ ((collection_by S).omitted ≡ []))
-Claim inMethods S I q rs rs' = (rs' ≡ rs ++ of_kind Method (texts_by S (bytes "http-method"))) × (S (bytes "url-pattern") ≡ []) × (S (bytes "http-method-omission") ≡ [])
-Claim inOmissions S I q rs rs' = (rs' ≡ rs ++ of_kind Omit (texts_by S (bytes "http-method-omission"))) × (S (bytes "url-pattern") ≡ []) × (S (bytes "http-method") ≡ [])
+Claim in_patterned S I q rs rs' = (rs' ≡ rs ++ under_collection (collection_by S)) × (((collection_by S).methods ≡ []) ⊎ ((collection_by S).omitted ≡ []))
+Claim in_methods S I q rs rs' = (rs' ≡ rs ++ of_kind Method (texts_by S (bytes "http-method"))) × (S (bytes "url-pattern") ≡ []) × (S (bytes "http-method-omission") ≡ [])
+Claim in_omissions S I q rs rs' = (rs' ≡ rs ++ of_kind Omit (texts_by S (bytes "http-method-omission"))) × (S (bytes "url-pattern") ≡ []) × (S (bytes "http-method") ≡ [])
 Claim in_auth S I q rs rs' = rs' ≡ rs ++ of_kind Allow (texts_by S (bytes "role-name"))
 Claim passed_over S I q rs rs' = rs' ≡ rs
 
@@ -92,32 +92,32 @@ Claim passed_over S I q rs rs' = rs' ≡ rs
 claim_over : (p : Phase) (rs : List Record) → Claim p (λ n. []) [] p rs rs
 unfolding flat_map
 claim_over in_app rs = (sym (append-nil rs), tt)
-claim_over inRole rs = sym (append-nil rs)
-claim_over inRoleNamed rs = sym (append-nil rs)
-claim_over inConstraint rs = λ e. absurd (never false e refl)
-claim_over inCollected rs = (λ before mid n e. e ∙ ap (λ (x : List Record). before ++ opened ∷ x) (sym (append-nil mid)), λ e. refl, tt)
-claim_over inGuarded rs = (refl, refl, refl)
+claim_over in_role rs = sym (append-nil rs)
+claim_over in_role_named rs = sym (append-nil rs)
+claim_over in_constraint rs = λ e. absurd (never false e refl)
+claim_over in_collected rs = (λ before mid n e. e ∙ ap (λ (x : List Record). before ++ opened ∷ x) (sym (append-nil mid)), λ e. refl, tt)
+claim_over in_guarded rs = (refl, refl, refl)
 claim_over in_collection rs = λ e. absurd (never false e refl)
-claim_over inPatterned rs = (sym (append-nil rs), inl refl)
-claim_over inMethods rs = (sym (append-nil rs), refl, refl)
-claim_over inOmissions rs = (sym (append-nil rs), refl, refl)
+claim_over in_patterned rs = (sym (append-nil rs), inl refl)
+claim_over in_methods rs = (sym (append-nil rs), refl, refl)
+claim_over in_omissions rs = (sym (append-nil rs), refl, refl)
 claim_over in_auth rs = sym (append-nil rs)
 claim_over passed_over rs = refl
 
 module _ (m : Text) (k : Content) (S : Seen) (I : List Item) (q : Phase) (rs rs' : List Record) where
   -- ---- an element that is passed over
-  claim_passed : sort_of m ≡ otherElement → (p : Phase) → Claim p S I q rs rs' → Claim p (also m k S) (items_of m k ++ I) q rs rs'
+  claim_passed : sort_of m ≡ other_element → (p : Phase) → Claim p S I q rs rs' → Claim p (also m k S) (items_of m k ++ I) q rs rs'
   unfolding sort_of same
   claim_passed e in_app h = rw (other_name m (bytes "security-role") e refl, other_name m (bytes "security-constraint") e refl) h
-  claim_passed e inRole h = rw (other_name m (bytes "role-name") e refl) h
-  claim_passed e inRoleNamed h = rw (other_name m (bytes "role-name") e refl) h
-  claim_passed e inConstraint h = rw (other_name m (bytes "auth-constraint") e refl, other_name m (bytes "web-resource-collection") e refl) h
-  claim_passed e inCollected h = rw (other_name m (bytes "auth-constraint") e refl, other_name m (bytes "web-resource-collection") e refl) h
-  claim_passed e inGuarded h = rw (other_name m (bytes "auth-constraint") e refl, other_name m (bytes "web-resource-collection") e refl) h
+  claim_passed e in_role h = rw (other_name m (bytes "role-name") e refl) h
+  claim_passed e in_role_named h = rw (other_name m (bytes "role-name") e refl) h
+  claim_passed e in_constraint h = rw (other_name m (bytes "auth-constraint") e refl, other_name m (bytes "web-resource-collection") e refl) h
+  claim_passed e in_collected h = rw (other_name m (bytes "auth-constraint") e refl, other_name m (bytes "web-resource-collection") e refl) h
+  claim_passed e in_guarded h = rw (other_name m (bytes "auth-constraint") e refl, other_name m (bytes "web-resource-collection") e refl) h
   claim_passed e in_collection h = rw (other_name m (bytes "url-pattern") e refl, other_name m (bytes "http-method") e refl, other_name m (bytes "http-method-omission") e refl) h
-  claim_passed e inPatterned h = rw (other_name m (bytes "url-pattern") e refl, other_name m (bytes "http-method") e refl, other_name m (bytes "http-method-omission") e refl) h
-  claim_passed e inMethods h = rw (other_name m (bytes "url-pattern") e refl, other_name m (bytes "http-method") e refl, other_name m (bytes "http-method-omission") e refl) h
-  claim_passed e inOmissions h = rw (other_name m (bytes "url-pattern") e refl, other_name m (bytes "http-method") e refl, other_name m (bytes "http-method-omission") e refl) h
+  claim_passed e in_patterned h = rw (other_name m (bytes "url-pattern") e refl, other_name m (bytes "http-method") e refl, other_name m (bytes "http-method-omission") e refl) h
+  claim_passed e in_methods h = rw (other_name m (bytes "url-pattern") e refl, other_name m (bytes "http-method") e refl, other_name m (bytes "http-method-omission") e refl) h
+  claim_passed e in_omissions h = rw (other_name m (bytes "url-pattern") e refl, other_name m (bytes "http-method") e refl, other_name m (bytes "http-method-omission") e refl) h
   claim_passed e in_auth h = rw (other_name m (bytes "role-name") e refl) h
   claim_passed e passed_over h = h
 

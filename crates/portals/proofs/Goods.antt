@@ -6,7 +6,7 @@ use mathlib.Core.Option.{Option, none, some, some-ne-none}
 use Rattle.text.specs.Texts.{Text, bytes, same, member, run, distinct}
 use Rattle.text.proofs.Truths.{never}
 use Rattle.names.specs.Names.{is_constraint_kind}
-use Rattle.documents.specs.Parts.{Fault, badName, badPattern, roleTwice, pastMost}
+use Rattle.documents.specs.Parts.{Fault, bad_name, bad_pattern, role_twice, past_most}
 use Rattle.documents.specs.Grammar.{Content}
 use Rattle.listings.specs.Records.{Record, is_kind, fields_where, declared_in, roles_in, methods_in}
 use Rattle.listings.specs.Fields.{name_fits, pattern_fits}
@@ -43,17 +43,17 @@ good_none = record { fits = tt; apart = tt; few = refl }
 -- the ladder of the rules in their order
 abbrev fault_by : Bool → Bool → Bool → Bool → Option Fault
 fault_by name pattern again past =
-    cond (not name) (some badName)
-    (cond (not pattern) (some badPattern)
-    (cond again (some roleTwice)
-    (cond past (some pastMost)
+    cond (not name) (some bad_name)
+    (cond (not pattern) (some bad_pattern)
+    (cond again (some role_twice)
+    (cond past (some past_most)
     none)))
 
 faultless : (a b c d : Bool) → fault_by a b c d ≡ none → (a ≡ true) × (b ≡ true) × (c ≡ false) × (d ≡ false)
-faultless false b c d h = absurd (some-ne-none badName h)
-faultless true false c d h = absurd (some-ne-none badPattern h)
-faultless true true true d h = absurd (some-ne-none roleTwice h)
-faultless true true false true h = absurd (some-ne-none pastMost h)
+faultless false b c d h = absurd (some-ne-none bad_name h)
+faultless true false c d h = absurd (some-ne-none bad_pattern h)
+faultless true true true d h = absurd (some-ne-none role_twice h)
+faultless true true false true h = absurd (some-ne-none past_most h)
 faultless true true false false h = (refl, refl, refl, refl)
 
 declared_more : (rs : List Record) (r : Record) → Apart (declared_in rs) → declares_again rs r ≡ false → Apart (declared_in (rs ++ r ∷ []))

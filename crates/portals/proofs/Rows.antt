@@ -10,7 +10,7 @@ use borrow.Author.Tests.{ltb-true, ltb-false, lt-ltb, le-ltb, ne_eqb}
 use Rattle.text.specs.Texts.{Text}
 use Rattle.limits.specs.Limits.{most_bytes}
 use Rattle.worktable.specs.Work.{work_size}
-use Rattle.documents.specs.Parts.{Fault, malformed, deep, unwanted, badName, badPattern, roleTwice, pastMost, Got, got, fault}
+use Rattle.documents.specs.Parts.{Fault, malformed, deep, unwanted, bad_name, bad_pattern, role_twice, past_most, Got, got, fault}
 use Rattle.listings.specs.Records.{Record}
 use Rattle.portals.specs.Listings.{written}
 use Rattle.portals.specs.Readings.{file_of}
@@ -29,23 +29,23 @@ pub fault_apart : (e : Fault) → Apart (fault_number e)
 fault_apart malformed = record { above = omega arith; no_15 = λ h. omega arith; no_16 = λ h. omega arith }
 fault_apart deep = record { above = omega arith; no_15 = λ h. omega arith; no_16 = λ h. omega arith }
 fault_apart unwanted = record { above = omega arith; no_15 = λ h. omega arith; no_16 = λ h. omega arith }
-fault_apart badName = record { above = omega arith; no_15 = λ h. omega arith; no_16 = λ h. omega arith }
-fault_apart badPattern = record { above = omega arith; no_15 = λ h. omega arith; no_16 = λ h. omega arith }
-fault_apart roleTwice = record { above = omega arith; no_15 = λ h. omega arith; no_16 = λ h. omega arith }
-fault_apart pastMost = record { above = omega arith; no_15 = λ h. omega arith; no_16 = λ h. omega arith }
+fault_apart bad_name = record { above = omega arith; no_15 = λ h. omega arith; no_16 = λ h. omega arith }
+fault_apart bad_pattern = record { above = omega arith; no_15 = λ h. omega arith; no_16 = λ h. omega arith }
+fault_apart role_twice = record { above = omega arith; no_15 = λ h. omega arith; no_16 = λ h. omega arith }
+fault_apart past_most = record { above = omega arith; no_15 = λ h. omega arith; no_16 = λ h. omega arith }
 
 -- the fault of a number
 abbrev fault_of : ℕ → Fault
-fault_of n = cond (eqb n 17) malformed (cond (eqb n 18) deep (cond (eqb n 19) unwanted (cond (eqb n 6) badName (cond (eqb n 7) badPattern (cond (eqb n 9) roleTwice pastMost)))))
+fault_of n = cond (eqb n 17) malformed (cond (eqb n 18) deep (cond (eqb n 19) unwanted (cond (eqb n 6) bad_name (cond (eqb n 7) bad_pattern (cond (eqb n 9) role_twice past_most)))))
 
 fault_again : (e : Fault) → fault_of (fault_number e) ≡ e
 fault_again malformed = refl
 fault_again deep = refl
 fault_again unwanted = refl
-fault_again badName = refl
-fault_again badPattern = refl
-fault_again roleTwice = refl
-fault_again pastMost = refl
+fault_again bad_name = refl
+fault_again bad_pattern = refl
+fault_again role_twice = refl
+fault_again past_most = refl
 
 pub fault_numbers_differ : (e f : Fault) → fault_number e ≡ fault_number f → e ≡ f
 fault_numbers_differ e f h = sym (fault_again e) ∙ ap fault_of h ∙ fault_again f

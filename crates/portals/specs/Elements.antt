@@ -7,32 +7,32 @@ use Rattle.listings.specs.declared.records.Kind.TheVariants.{Role, Constraint, A
 -- ---- elements by name
 -- the eight that are wanted where they belong, the two that are refused anywhere, and all others
 pub data Sort : Type 0 where
-  securityRole securityConstraint webResourceCollection authConstraint urlPattern httpMethod httpMethodOmission roleName : Sort
-  refusedElement otherElement : Sort
+  security_role security_constraint web_resource_collection auth_constraint url_pattern http_method http_method_omission role_name : Sort
+  refused_element other_element : Sort
 
 -- "`user-data-constraint` and `deny-uncovered-http-methods` are refused anywhere"
 abbrev pub refused_or : Text → Sort
 refused_or n =
-    cond (same n (bytes "user-data-constraint")) refusedElement
-    (cond (same n (bytes "deny-uncovered-http-methods")) refusedElement
-    otherElement)
+    cond (same n (bytes "user-data-constraint")) refused_element
+    (cond (same n (bytes "deny-uncovered-http-methods")) refused_element
+    other_element)
 
 -- those that are texts
 abbrev pub text_sort : Text → Sort
 text_sort n =
-    cond (same n (bytes "url-pattern")) urlPattern
-    (cond (same n (bytes "http-method")) httpMethod
-    (cond (same n (bytes "http-method-omission")) httpMethodOmission
-    (cond (same n (bytes "role-name")) roleName
+    cond (same n (bytes "url-pattern")) url_pattern
+    (cond (same n (bytes "http-method")) http_method
+    (cond (same n (bytes "http-method-omission")) http_method_omission
+    (cond (same n (bytes "role-name")) role_name
     (refused_or n))))
 
 unfoldable pub sort_of : Text → Sort
 unfolding same
 sort_of n =
-    cond (same n (bytes "security-role")) securityRole
-    (cond (same n (bytes "security-constraint")) securityConstraint
-    (cond (same n (bytes "web-resource-collection")) webResourceCollection
-    (cond (same n (bytes "auth-constraint")) authConstraint
+    cond (same n (bytes "security-role")) security_role
+    (cond (same n (bytes "security-constraint")) security_constraint
+    (cond (same n (bytes "web-resource-collection")) web_resource_collection
+    (cond (same n (bytes "auth-constraint")) auth_constraint
     (text_sort n))))
 
 -- ---- where one stands in an element
@@ -40,11 +40,11 @@ pub data Phase : Type 0 where
   -- directly in `web-app`
   in_app : Phase
   -- in a `security-role`: before its `role-name`, behind it
-  inRole inRoleNamed : Phase
+  in_role in_role_named : Phase
   -- in a `security-constraint`: before its collections, behind one of them, behind its `auth-constraint`
-  inConstraint inCollected inGuarded : Phase
+  in_constraint in_collected in_guarded : Phase
   -- in a `web-resource-collection`: before its patterns, behind one of them, behind an `http-method`, behind an `http-method-omission`
-  in_collection inPatterned inMethods inOmissions : Phase
+  in_collection in_patterned in_methods in_omissions : Phase
   -- in an `auth-constraint`
   in_auth : Phase
   -- in an element that is passed over
@@ -78,66 +78,66 @@ row p t o = record { within = p; sort = t; gives = o }
 abbrev pub rows : List Row
 rows =
     -- "Its children `security-role` and `security-constraint` are wanted"
-    row in_app securityRole (holds in_app inRole nothing)
-    ∷ row in_app securityConstraint (holds in_app inConstraint (adds Constraint (bytes "open")))
+    row in_app security_role (holds in_app in_role nothing)
+    ∷ row in_app security_constraint (holds in_app in_constraint (adds Constraint (bytes "open")))
     -- "in a `security-role` one `role-name`"
-    ∷ row inRole roleName (says inRoleNamed Role)
+    ∷ row in_role role_name (says in_role_named Role)
     -- "In a constraint stand one or more collections, then at most one `auth-constraint`"
-    ∷ row inConstraint webResourceCollection (holds inCollected in_collection (adds Collection []))
-    ∷ row inCollected webResourceCollection (holds inCollected in_collection (adds Collection []))
-    ∷ row inCollected authConstraint (holds inGuarded in_auth guards)
+    ∷ row in_constraint web_resource_collection (holds in_collected in_collection (adds Collection []))
+    ∷ row in_collected web_resource_collection (holds in_collected in_collection (adds Collection []))
+    ∷ row in_collected auth_constraint (holds in_guarded in_auth guards)
     -- "in a collection one or more `url-pattern`, then only `http-method` or only `http-method-omission`"
-    ∷ row in_collection urlPattern (says inPatterned Pattern)
-    ∷ row inPatterned urlPattern (says inPatterned Pattern)
-    ∷ row inPatterned httpMethod (says inMethods Method)
-    ∷ row inMethods httpMethod (says inMethods Method)
-    ∷ row inPatterned httpMethodOmission (says inOmissions Omit)
-    ∷ row inOmissions httpMethodOmission (says inOmissions Omit)
+    ∷ row in_collection url_pattern (says in_patterned Pattern)
+    ∷ row in_patterned url_pattern (says in_patterned Pattern)
+    ∷ row in_patterned http_method (says in_methods Method)
+    ∷ row in_methods http_method (says in_methods Method)
+    ∷ row in_patterned http_method_omission (says in_omissions Omit)
+    ∷ row in_omissions http_method_omission (says in_omissions Omit)
     -- "in an `auth-constraint` any number"
-    ∷ row in_auth roleName (says in_auth Allow)
+    ∷ row in_auth role_name (says in_auth Allow)
     ∷ []
 
 -- "one `role-name`", "one or more collections", "one or more `url-pattern`": nothing is missing where an element ends
 abbrev pub is_complete : Phase → Bool
 is_complete in_app = true
-is_complete inRole = false
-is_complete inRoleNamed = true
-is_complete inConstraint = false
-is_complete inCollected = true
-is_complete inGuarded = true
+is_complete in_role = false
+is_complete in_role_named = true
+is_complete in_constraint = false
+is_complete in_collected = true
+is_complete in_guarded = true
 is_complete in_collection = false
-is_complete inPatterned = true
-is_complete inMethods = true
-is_complete inOmissions = true
+is_complete in_patterned = true
+is_complete in_methods = true
+is_complete in_omissions = true
 is_complete in_auth = true
 is_complete passed_over = true
 
 -- ---- phases and sorts told apart by a number each
 abbrev pub phase_number : Phase → ℕ
 phase_number in_app = 0
-phase_number inRole = 1
-phase_number inRoleNamed = 2
-phase_number inConstraint = 3
-phase_number inCollected = 4
-phase_number inGuarded = 5
+phase_number in_role = 1
+phase_number in_role_named = 2
+phase_number in_constraint = 3
+phase_number in_collected = 4
+phase_number in_guarded = 5
 phase_number in_collection = 6
-phase_number inPatterned = 7
-phase_number inMethods = 8
-phase_number inOmissions = 9
+phase_number in_patterned = 7
+phase_number in_methods = 8
+phase_number in_omissions = 9
 phase_number in_auth = 10
 phase_number passed_over = 11
 
 abbrev pub sort_number : Sort → ℕ
-sort_number securityRole = 0
-sort_number securityConstraint = 1
-sort_number webResourceCollection = 2
-sort_number authConstraint = 3
-sort_number urlPattern = 4
-sort_number httpMethod = 5
-sort_number httpMethodOmission = 6
-sort_number roleName = 7
-sort_number refusedElement = 8
-sort_number otherElement = 9
+sort_number security_role = 0
+sort_number security_constraint = 1
+sort_number web_resource_collection = 2
+sort_number auth_constraint = 3
+sort_number url_pattern = 4
+sort_number http_method = 5
+sort_number http_method_omission = 6
+sort_number role_name = 7
+sort_number refused_element = 8
+sort_number other_element = 9
 
 -- ---- what a first tag comes to, by where it stands
 -- the row for it; without one it is out of place

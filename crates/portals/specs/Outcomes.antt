@@ -3,7 +3,7 @@ use Rattle.std.specs.Prelude.{ℕ, suc, ◌-◌, ◌≡◌, cond, List, [], ◌�
 use Rattle.text.specs.Texts.{Text, newline}
 use Rattle.limits.specs.Limits.{most_bytes}
 use Rattle.worktable.specs.Work.{is_short, work_after}
-use Rattle.documents.specs.Parts.{Fault, malformed, deep, unwanted, badName, badPattern, roleTwice, pastMost, Got, got, fault}
+use Rattle.documents.specs.Parts.{Fault, malformed, deep, unwanted, bad_name, bad_pattern, role_twice, past_most, Got, got, fault}
 use Rattle.listings.specs.Records.{Record}
 use Rattle.portals.specs.Listings.{written}
 use Rattle.portals.specs.Readings.{file_of}
@@ -17,10 +17,10 @@ abbrev pub fault_number : Fault → ℕ
 fault_number malformed = 17
 fault_number deep = 18
 fault_number unwanted = 19
-fault_number badName = 6
-fault_number badPattern = 7
-fault_number roleTwice = 9
-fault_number pastMost = 8
+fault_number bad_name = 6
+fault_number bad_pattern = 7
+fault_number role_twice = 9
+fault_number past_most = 8
 
 -- how many of the bytes end a line
 unfoldable pub line_ends : Text → ℕ

@@ -2,7 +2,7 @@
 use Rattle.std.specs.Prelude.{Bool, false, not, cond, ◌&&◌, ◌||◌, List, [], ◌∷◌, ◌++◌}
 use Rattle.std.proofs.Math.Option.{Option, none, some}
 use Rattle.text.specs.Texts.{Text, bytes}
-use Rattle.documents.specs.Parts.{Fault, badName, badPattern, roleTwice, pastMost}
+use Rattle.documents.specs.Parts.{Fault, bad_name, bad_pattern, role_twice, past_most}
 use Rattle.listings.specs.Records.{Record, is_kind}
 use Rattle.listings.specs.Refusals.{has_bad_name, has_bad_pattern, declares_again, passes_most}
 use Rattle.listings.specs.declared.records.Kind.{Kind}
@@ -15,10 +15,10 @@ record_of k t = record { kind = k; field = t }
 -- "then 01's 6, 7, 9, 8": the first rule that a record breaks, by the records before it in the file
 unfoldable pub first_fault : List Record → Record → Option Fault
 first_fault before r =
-    cond (has_bad_name r) (some badName)
-    (cond (has_bad_pattern r) (some badPattern)
-    (cond (declares_again before r) (some roleTwice)
-    (cond (passes_most before r) (some pastMost)
+    cond (has_bad_name r) (some bad_name)
+    (cond (has_bad_pattern r) (some bad_pattern)
+    (cond (declares_again before r) (some role_twice)
+    (cond (passes_most before r) (some past_most)
     none)))
 
 -- one of the records is a constraint

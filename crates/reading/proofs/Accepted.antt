@@ -9,7 +9,7 @@ use lib.ListN.{length}
 use lib.Dec.{leb}
 use borrow.Author.Tests.{leb-true}
 use native.Mathlib.Omega.{arith}
-use Rattle.text.specs.Texts.{Text, same, all, member, known, onLast, Once}
+use Rattle.text.specs.Texts.{Text, same, all, member, known, on_last, Once}
 use Rattle.listings.specs.Records.{Record, names_role, names_method, fields_where, declared_in, roles_in, methods_in}
 use Rattle.names.specs.Names.{is_star, made_of, is_name, is_role_name, is_method_name, is_pattern}
 use Rattle.text.specs.Bytes.{between, is_text}
@@ -27,7 +27,7 @@ use Rattle.names.proofs.Plainly.{member_append, member_plain}
 use Rattle.text.proofs.Spans.{same_self}
 use Rattle.reading.specs.Views.{ProperView, view_of}
 use Rattle.reading.proofs.Viewings.{texts_of_lem}
-use Rattle.text.proofs.Indices.{run-snoc, once_distinct}
+use Rattle.text.proofs.Indices.{run_snoc, once_distinct}
 use Rattle.reading.proofs.Rulings.{pictures}
 use Rattle.reading.proofs.Loads.{accepted_sound}
 
@@ -41,8 +41,8 @@ module _ {A : Type 0} (P : A → Type 0) where
   each_append [] ys a b = b
   each_append (x ∷ xs) ys a b = (a.0, each_append xs ys a.1 b)
 
-  pub each_on_last : (f : A → A) → ((x : A) → P x → P (f x)) → (xs : List A) → Each P xs → Each P (onLast f xs)
-  unfolding onLast
+  pub each_on_last : (f : A → A) → ((x : A) → P x → P (f x)) → (xs : List A) → Each P xs → Each P (on_last f xs)
+  unfolding on_last
   each_on_last f h [] a = a
   each_on_last f h (x ∷ []) a = (h x a.0, tt)
   each_on_last f h (x ∷ y ∷ ys) a = (a.0, each_on_last f h (y ∷ ys) a.1)
@@ -149,7 +149,7 @@ module _ (ms ns : List Text) (t : Text) where
 -- ---- all records
 constraints_snoc : (rs : List Record) (r : Record) → constraints_in (rs ++ r ∷ []) ≡ adds (constraints_in rs) r
 unfolding constraints_in
-constraints_snoc rs r = run-snoc adds [] rs r
+constraints_snoc rs r = run_snoc adds [] rs r
 
 abbrev record_with : Kind → Text → Record
 record_with k f = record { kind = k; field = f }
@@ -181,7 +181,7 @@ module _ (rs : List Record) (f : Text) (a : Spoken rs) where
   spoken_more k p = rw (methods_snoc rs (record_with k f), roles_snoc rs (record_with k f), constraints_snoc rs (record_with k f)) (go k p.pattern)
     where
       star : (b : Bool) → is_star f ≡ b
-          → Each (Allows (methods_in rs) (cond (not b) (known (roles_in rs) f) (roles_in rs))) (onLast (add_allowed f) (constraints_in rs))
+          → Each (Allows (methods_in rs) (cond (not b) (known (roles_in rs) f) (roles_in rs))) (on_last (add_allowed f) (constraints_in rs))
       star true e = each_on_last _ (add_allowed f) (with_allowed (methods_in rs) (roles_in rs) f (rw e)) (constraints_in rs) a
       star false e = each_on_last _ (add_allowed f) (with_allowed (methods_in rs) (known (roles_in rs) f) f (rw (e, known_has (roles_in rs) f))) (constraints_in rs) more_roles
 

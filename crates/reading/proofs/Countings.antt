@@ -7,17 +7,17 @@ use native.Mathlib.Omega.{arith}
 use lib.ListN.{length, length-append}
 use lib.Dec.{ltb}
 use borrow.Author.Tests.{ltb-true, ltb-false}
-use Rattle.text.specs.Texts.{Text, known, onLast, index_of}
-use Rattle.text.proofs.Indices.{run-snoc, index_bound, index_member, index_front, index_behind, Begins, begins_front}
+use Rattle.text.specs.Texts.{Text, known, on_last, index_of}
+use Rattle.text.proofs.Indices.{run_snoc, index_bound, index_member, index_front, index_behind, Begins, begins_front}
 use Rattle.listings.specs.Records.{Record}
 use Rattle.entries.specs.Tables.{start_tables, indexed, tables_with, tables_of}
 
 -- a change of the last element keeps the number
-pub length-on-last {ℓ} : {A : Type ℓ} (f : A → A) (xs : List A) → length (onLast f xs) ≡ length xs
-unfolding onLast
-length-on-last f [] = refl
-length-on-last f (x ∷ []) = refl
-length-on-last f (x ∷ y ∷ ys) = ap suc (length-on-last f (y ∷ ys))
+pub length_on_last {ℓ} : {A : Type ℓ} (f : A → A) (xs : List A) → length (on_last f xs) ≡ length xs
+unfolding on_last
+length_on_last f [] = refl
+length_on_last f (x ∷ []) = refl
+length_on_last f (x ∷ y ∷ ys) = ap suc (length_on_last f (y ∷ ys))
 
 -- the two ways to put a text behind the others are one
 pub indexed_known : (t : Text) (us : List Text) → indexed t us ≡ known us t
@@ -28,7 +28,7 @@ indexed_known t us = ap (λ (b : Bool). cond b us (us ++ t ∷ [])) (index_membe
 -- the tables are those before, with what it adds
 pub tables_snoc : (rs : List Record) (r : Record) → tables_of (rs ++ r ∷ []) ≡ tables_with (tables_of rs) r
 unfolding tables_of
-tables_snoc rs r = run-snoc tables_with start_tables rs r
+tables_snoc rs r = run_snoc tables_with start_tables rs r
 
 -- ---- indices that are settled
 -- a text put behind them, if it is none of them, has its index for good

@@ -21,9 +21,9 @@ use Rattle.listings.specs.declared.records.Kind.TheVariants.{Role, Constraint, A
 use Rattle.listings.specs.declared.records.Stage.TheVariants.{AfterOpen, AfterAuth}
 use Rattle.listings.specs.declared.answers.Fault.TheVariants.{WrongPlace, PastMost}
 use Rattle.text.proofs.Truths.{never}
-use Rattle.text.proofs.Indices.{length-snoc, index_member}
+use Rattle.text.proofs.Indices.{length_snoc, index_member}
 use Rattle.listings.proofs.Countings.{stage_snoc, count_snoc, declared_snoc, roles_snoc, methods_snoc}
-use Rattle.reading.proofs.Countings.{length-on-last, indexed_known, tables_snoc}
+use Rattle.reading.proofs.Countings.{length_on_last, indexed_known, tables_snoc}
 use Rattle.listings.proofs.Sound.{Passes, Sound, sound_none, sound_more, fault_by, first_broken_lem, Within, Few, few}
 
 -- what tables keep of records
@@ -125,7 +125,7 @@ module _ (rs : List Record) (T : Tables) (K : Kept rs T) where
   -- ---- what a record of each kind passes
   past_at_role : (t : Text) → member t T.roles ≡ false → too_many (rs ++ record_with Role t ∷ []) ≡ leb most_roles (length T.roles)
   unfolding known names_role
-  past_at_role t m = past_snoc rs (record_with Role t) ∙ rw (← K.roles, m, length-snoc T.roles t, K.roles) (past_role W)
+  past_at_role t m = past_snoc rs (record_with Role t) ∙ rw (← K.roles, m, length_snoc T.roles t, K.roles) (past_role W)
 
   past_at_constraint : (t : Text) → too_many (rs ++ record_with Constraint t ∷ []) ≡ leb most_constraints (length T.accesses)
   unfolding names_role
@@ -141,7 +141,7 @@ module _ (rs : List Record) (T : Tables) (K : Kept rs T) where
           ≡ cond s false (cond m false (leb most_roles (length (roles_in rs))))
       go true m = past_none W
       go false true = past_none W
-      go false false = rw (length-snoc (roles_in rs) t) (past_role W)
+      go false false = rw (length_snoc (roles_in rs) t) (past_role W)
 
   past_at_collection : (t : Text) → too_many (rs ++ record_with Collection t ∷ []) ≡ leb most_collections (length T.covers)
   unfolding names_role
@@ -166,7 +166,7 @@ module _ (rs : List Record) (T : Tables) (K : Kept rs T) where
           (length (roles_in rs)) (length (cond m (methods_in rs) (methods_in rs ++ t ∷ [])))
           ≡ (leb most_method_lines (count Method rs + count Omit rs) || cond m false (leb most_methods (length (methods_in rs))))
       go true = past_line W ∙ sym (or_false _)
-      go false = rw (length-snoc (methods_in rs) t) (past_method W)
+      go false = rw (length_snoc (methods_in rs) t) (past_method W)
 
   past_at_method : (t : Text) → too_many (rs ++ record_with Method t ∷ [])
       ≡ (leb most_method_lines T.lines || cond (member t T.methods) false (leb most_methods (length T.methods)))
@@ -225,8 +225,8 @@ module _ (rs : List Record) (T : Tables) (K : Kept rs T) where
       length (field_add k T t).accesses ≡ cond (is_kind Constraint (record_with k t)) (suc (length T.accesses)) (length T.accesses)
   unfolding field_add
   added_accesses Role t = refl
-  added_accesses Constraint t = rw length-snoc
-  added_accesses Allow t = rw length-on-last
+  added_accesses Constraint t = rw length_snoc
+  added_accesses Allow t = rw length_on_last
   added_accesses Collection t = refl
   added_accesses Pattern t = refl
   added_accesses Method t = refl
@@ -239,10 +239,10 @@ module _ (rs : List Record) (T : Tables) (K : Kept rs T) where
   added_covers Role t = refl
   added_covers Constraint t = refl
   added_covers Allow t = refl
-  added_covers Collection t = rw length-snoc
+  added_covers Collection t = rw length_snoc
   added_covers Pattern t = refl
-  added_covers Method t = rw length-on-last
-  added_covers Omit t = rw length-on-last
+  added_covers Method t = rw length_on_last
+  added_covers Omit t = rw length_on_last
   added_covers End t = refl
 
   added_patterns : (k : Kind) (t : Text) →
@@ -252,7 +252,7 @@ module _ (rs : List Record) (T : Tables) (K : Kept rs T) where
   added_patterns Constraint t = refl
   added_patterns Allow t = refl
   added_patterns Collection t = refl
-  added_patterns Pattern t = rw length-snoc
+  added_patterns Pattern t = rw length_snoc
   added_patterns Method t = refl
   added_patterns Omit t = refl
   added_patterns End t = refl
@@ -325,7 +325,7 @@ module _ (rs : List Record) (T : Tables) (K : Kept rs T) where
   added_declared k t = rw (declared_snoc rs (record_with k t)) (go k)
     where
       go : (k : Kind) → (field_add k T t).declared ≡ length (cond (is_kind Role (record_with k t)) (declared_in rs ++ t ∷ []) (declared_in rs))
-      go Role = rw length-snoc (omega (arith, K.declared))
+      go Role = rw length_snoc (omega (arith, K.declared))
       go Constraint = K.declared
       go Allow = K.declared
       go Collection = K.declared

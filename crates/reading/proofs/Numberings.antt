@@ -7,15 +7,15 @@ use native.Mathlib.Omega.{arith}
 use native.Mathlib.Decide.{dec_lt}
 use lib.ListN.{length, get_or, length-append, length-map, get_or-append}
 use lib.Seq.{get_or-append_seam, get_or-append-add}
-use Rattle.text.specs.Texts.{Text, onLast}
-use Rattle.entries.proofs.Regions.{on-last-snoc}
-use Rattle.text.proofs.Indices.{length-snoc}
+use Rattle.text.specs.Texts.{Text, on_last}
+use Rattle.entries.proofs.Regions.{on_last_snoc}
+use Rattle.text.proofs.Indices.{length_snoc}
 
 -- ---- the last element changed
 module _ {A B : Type 0} (h : A → B) (xs : List A) (x y : A) where
   -- a change of the last that the image shows
-  pub map_last : (g : B → B) → g (h x) ≡ h y → onLast g (map h (xs ++ x ∷ [])) ≡ map h (xs ++ y ∷ [])
-  map_last g e = rw (map-append h xs (x ∷ []), map-append h xs (y ∷ []), on-last-snoc g (map h xs) (h x), e)
+  pub map_last : (g : B → B) → g (h x) ≡ h y → on_last g (map h (xs ++ x ∷ [])) ≡ map h (xs ++ y ∷ [])
+  map_last g e = rw (map-append h xs (x ∷ []), map-append h xs (y ∷ []), on_last_snoc g (map h xs) (h x), e)
 
   -- and one that it does not show
   pub map_kept : h x ≡ h y → map h (xs ++ x ∷ []) ≡ map h (xs ++ y ∷ [])
@@ -91,7 +91,7 @@ numbers_more n tss ts t =
 pub numbered_more : {A : Type 0} (p : A → List Text) (xs : List A) (x y : A) (t : Text) (n : ℕ) → p y ≡ p x ++ t ∷ [] → n ≡ length (xs ++ x ∷ []) →
     numbers 1 (map p (xs ++ x ∷ [])) ++ n ∷ [] ≡ numbers 1 (map p (xs ++ y ∷ []))
 numbered_more p xs x y t n e h =
-    let k : n ≡ 1 + length (map p xs) = omega (arith, length-snoc xs x, length-map xs p) in
+    let k : n ≡ 1 + length (map p xs) = omega (arith, length_snoc xs x, length-map xs p) in
     rw (map-append p xs (x ∷ []), map-append p xs (y ∷ []), e, k) (sym (numbers_more 1 (map p xs) (p x) t))
 
 -- as many as the texts
@@ -143,7 +143,7 @@ module _ {A B : Type 0} (p : A → List Text) (g : A → B) (d : B) where
   at_numbers front [] = refl
   at_numbers front (x ∷ xs) =
       map-append look (map (λ (t : Text). length front) (p x)) (numbers (suc (length front)) (map p xs))
-      ∙ ap₂ ◌++◌ here (rw (append_assoc front (g x ∷ []) (map g xs), length-snoc front (g x)) at (at_numbers (front ++ g x ∷ []) xs))
+      ∙ ap₂ ◌++◌ here (rw (append_assoc front (g x ∷ []) (map g xs), length_snoc front (g x)) at (at_numbers (front ++ g x ∷ []) xs))
     where
       look : ℕ → B
       look n = get_or (front ++ g x ∷ map g xs) n d

@@ -6,7 +6,7 @@ use Prim.Native.Nat.{ℕ, ◌≤◌}
 use native.Mathlib.Omega.{arith}
 use lib.ListN.{length, length-map}
 use lib.Bits.{bit_or}
-use Rattle.text.specs.Texts.{Text, bytes, same, run, onLast, index_of, Once}
+use Rattle.text.specs.Texts.{Text, bytes, same, run, on_last, index_of, Once}
 use Rattle.listings.specs.Records.{Record, may_follow, is_among, is_kind, fields_where, names_role, names_method, declared_in, roles_in, methods_in}
 use Rattle.names.specs.Names.{is_star, is_method_name}
 use Rattle.listings.specs.Fields.{name_fits}
@@ -21,8 +21,8 @@ use Rattle.listings.specs.declared.records.Kind.TheVariants.{Role, Constraint, A
 use Rattle.listings.specs.declared.records.Stage.{Stage}
 use Rattle.listings.specs.declared.records.Stage.TheVariants.{AfterFirst, AfterRole, AfterOpen, AfterAuth, AfterAllow, AfterCollection, AfterPattern, AfterMethod, AfterOmit, AfterEnd}
 use Rattle.text.proofs.Truths.{never}
-use Rattle.text.proofs.Indices.{run-snoc, once_distinct, Begins, begins_front}
-use Rattle.entries.proofs.Regions.{on-last-snoc}
+use Rattle.text.proofs.Indices.{run_snoc, once_distinct, Begins, begins_front}
+use Rattle.entries.proofs.Regions.{on_last_snoc}
 use Rattle.listings.proofs.Countings.{declared_snoc}
 use Rattle.reading.proofs.Countings.{tables_snoc, begins_indexed, settled}
 use Rattle.listings.proofs.Sound.{Passes, Sound, sound_none, sound_more, sound_few}
@@ -170,8 +170,8 @@ module _ (methods roles declared : List Text) (T : Tables) (cs : List Constraine
 
   -- ---- the last constraint changed: what does not show it stays
   module _ (l : Last cs) (new : Constrained) where
-    on_last : (f : Constrained → Constrained) → f l.last ≡ new → onLast f cs ≡ l.front ++ new ∷ []
-    on_last f e = ap (onLast f) l.split ∙ on-last-snoc f l.front l.last ∙ ap (λ (k : Constrained). l.front ++ k ∷ []) e
+    on_last_lem : (f : Constrained → Constrained) → f l.last ≡ new → on_last f cs ≡ l.front ++ new ∷ []
+    on_last_lem f e = ap (on_last f) l.split ∙ on_last_snoc f l.front l.last ∙ ap (λ (k : Constrained). l.front ++ k ∷ []) e
 
     kept_allows : admit_in roles declared l.last ≡ admit_in roles declared new → T.allows ≡ map (admit_in roles declared) (l.front ++ new ∷ [])
     kept_allows e = P.allows ∙ ap (map (admit_in roles declared)) l.split ∙ map_kept (admit_in roles declared) l.front l.last new e
@@ -191,16 +191,16 @@ module _ (methods roles declared : List Text) (T : Tables) (cs : List Constraine
     flat_new = flat_snoc (λ (k : Constrained). k.collections) l.front new
 
   at_allow : (n : Text) (c : Closing cs) → Tab.add_allow_to T n (admit_in roles declared c.at.last) ≡ admit_in roles declared (add_allowed n c.at.last) →
-      Pictured methods roles declared (Tab.add_allow T n) (onLast (add_allowed n) cs)
+      Pictured methods roles declared (Tab.add_allow T n) (on_last (add_allowed n) cs)
   unfolding admits
-  at_allow n c e = rw (on_last l new (add_allowed n) refl) (record {
+  at_allow n c e = rw (on_last_lem l new (add_allowed n) refl) (record {
     shaped = shaped_at AfterAllow (l.front ++ new ∷ []) (record { at = ending l.front new; closed = c.closed });
     covers = P.covers ∙ ap (map (cover_in methods)) flat;
     allows =
-        ap (onLast (Tab.add_allow_to T n)) (P.allows ∙ ap (map (admit_in roles declared)) l.split)
+        ap (on_last (Tab.add_allow_to T n)) (P.allows ∙ ap (map (admit_in roles declared)) l.split)
         ∙ map_last (admit_in roles declared) l.front l.last new (Tab.add_allow_to T n) e;
     accesses =
-        ap (onLast (λ (x : ℕ). 2)) (P.accesses ∙ ap (map access_number_of) l.split)
+        ap (on_last (λ (x : ℕ). 2)) (P.accesses ∙ ap (map access_number_of) l.split)
         ∙ map_last access_number_of l.front l.last new (λ (x : ℕ). 2) (access_allowed l.last n c.closed);
     patterns = P.patterns ∙ ap (flat_map patterns_of) flat;
     owners = P.owners ∙ ap (λ (es : List Collected). numbers 1 (map patterns_of es)) flat;
@@ -216,9 +216,9 @@ module _ (methods roles declared : List Text) (T : Tables) (cs : List Constraine
       flat : collections_of cs ≡ collections_of (l.front ++ new ∷ [])
       flat = flat_old l new ∙ sym (flat_new l new)
 
-  at_collection : (l : Last cs) (t : Text) → Pictured methods roles declared (Tab.add_collection T t) (onLast L.add_collection cs)
+  at_collection : (l : Last cs) (t : Text) → Pictured methods roles declared (Tab.add_collection T t) (on_last L.add_collection cs)
   unfolding admits
-  at_collection l t = rw (on_last l new L.add_collection refl) (record {
+  at_collection l t = rw (on_last_lem l new L.add_collection refl) (record {
     shaped = shaped_at AfterCollection (l.front ++ new ∷ [])
         (record { at = ending l.front new; before = l.last.collections; collection = fresh; parts = refl; empty = refl });
     covers =
@@ -253,11 +253,11 @@ module _ (methods roles declared : List Text) (T : Tables) (cs : List Constraine
     abbrev altered : Constrained
     altered = in_collection f i.at.last
 
-    on_collection : onLast (in_collection f) cs ≡ i.at.front ++ altered ∷ []
-    on_collection = on_last i.at altered (in_collection f) refl
+    on_collection : on_last (in_collection f) cs ≡ i.at.front ++ altered ∷ []
+    on_collection = on_last_lem i.at altered (in_collection f) refl
 
     altered_parts : altered.collections ≡ i.before ++ f i.collection ∷ []
-    altered_parts = ap (onLast f) i.parts ∙ on-last-snoc f i.before i.collection
+    altered_parts = ap (on_last f) i.parts ∙ on_last_snoc f i.before i.collection
 
     before_change : collections_of cs ≡ earlier ++ i.collection ∷ []
     before_change =
@@ -283,13 +283,13 @@ module _ (methods roles declared : List Text) (T : Tables) (cs : List Constraine
     -- by a `method` or an `omit` line
     at_line_lem : (U : Tables) (g : ℕ → ℕ) → g (cover_in methods i.collection) ≡ cover_in methods (f i.collection) →
         (f i.collection).patterns ≡ i.collection.patterns → Shaped U.stage (i.at.front ++ altered ∷ []) →
-        U.covers ≡ onLast g T.covers → U.allows ≡ T.allows → U.accesses ≡ T.accesses → U.patterns ≡ T.patterns → U.owners ≡ T.owners →
-        U.parents ≡ T.parents → Pictured methods roles declared U (onLast (in_collection f) cs)
+        U.covers ≡ on_last g T.covers → U.allows ≡ T.allows → U.accesses ≡ T.accesses → U.patterns ≡ T.patterns → U.owners ≡ T.owners →
+        U.parents ≡ T.parents → Pictured methods roles declared U (on_last (in_collection f) cs)
     unfolding admits
     at_line_lem U g e p s u₁ u₂ u₃ u₄ u₅ u₆ = rw on_collection (record {
       shaped = s;
       covers =
-          u₁ ∙ ap (onLast g) (P.covers ∙ ap (map (cover_in methods)) before_change)
+          u₁ ∙ ap (on_last g) (P.covers ∙ ap (map (cover_in methods)) before_change)
           ∙ map_last (cover_in methods) earlier i.collection (f i.collection) g e ∙ ap (map (cover_in methods)) (sym after_change);
       allows = u₂ ∙ kept_allows i.at altered refl;
       accesses = u₃ ∙ kept_accesses i.at altered refl;
@@ -305,7 +305,7 @@ module _ (methods roles declared : List Text) (T : Tables) (cs : List Constraine
           ∙ ap (flat_map patterns_of) (sym altered_parts));
     })
 
-  at_pattern : (i : Inside true cs) (t : Text) → Pictured methods roles declared (Tab.add_pattern T t) (onLast (in_collection (L.add_pattern t)) cs)
+  at_pattern : (i : Inside true cs) (t : Text) → Pictured methods roles declared (Tab.add_pattern T t) (on_last (in_collection (L.add_pattern t)) cs)
   unfolding covers admits
   at_pattern i t = rw (on_collection i f) (record {
     shaped = shaped_at AfterPattern (i.at.front ++ new ∷ []) (still_inside i f true i.empty);
@@ -340,14 +340,14 @@ module _ (methods roles declared : List Text) (T : Tables) (cs : List Constraine
           ∙ ap (λ (es : List Collected). flat_map patterns_of es ++ t ∷ []) (sym i.parts)
 
   module _ (once : Once methods) (few : length methods ≤ 32) (m : Text) (named : m ≡ [] → ⊥) (begins : Begins (indexed m T.methods) methods) where
-    at_method_lem : Inside (is_first_method T.stage) cs → Pictured methods roles declared (Tab.add_method T m) (onLast (in_collection (add_method m)) cs)
+    at_method_lem : Inside (is_first_method T.stage) cs → Pictured methods roles declared (Tab.add_method T m) (on_last (in_collection (add_method m)) cs)
     at_method_lem i =
         let h = settled m T.methods methods begins in
         at_line_lem i (add_method m) (Tab.add_method T m) (Tab.add_method_to T m)
         (rw (← i.empty, h.0) (cover_method methods once few i.collection m named h.1)) refl
         (shaped_at AfterMethod _ (still_inside i (add_method m) false (empty_snoc i.collection.methods m))) refl refl refl refl refl refl
 
-    at_omit : Inside true cs → Pictured methods roles declared (Tab.add_omit T m) (onLast (in_collection (add_omitted m)) cs)
+    at_omit : Inside true cs → Pictured methods roles declared (Tab.add_omit T m) (on_last (in_collection (add_omitted m)) cs)
     at_omit i =
         let h = settled m T.methods methods begins in
         at_line_lem i (add_omitted m) (Tab.add_omit T m) (λ (x : ℕ). without_member x (index_of m T.methods))
@@ -374,7 +374,7 @@ method_named m h e = never (is_method_name []) (rw e at h) refl
 -- ---- all records
 constraints_snoc : (rs : List Record) (r : Record) → constraints_in (rs ++ r ∷ []) ≡ adds (constraints_in rs) r
 unfolding constraints_in
-constraints_snoc rs r = run-snoc adds [] rs r
+constraints_snoc rs r = run_snoc adds [] rs r
 
 module _ (methods roles : List Text) (once-m : Once methods) (once-r : Once roles) (few-m : length methods ≤ 32) (few-r : length roles ≤ 32) where
   -- one more of any kind

@@ -16,20 +16,20 @@ use Rattle.text.proofs.Spans.{same_equal, same_self}
 
 -- ---- lists
 -- a run over one element more
-pub run-snoc {ℓ κ} : {S : Type ℓ} {A : Type κ} (f : S → A → S) (z : S) (xs : List A) (x : A) → run f z (xs ++ x ∷ []) ≡ f (run f z xs) x
+pub run_snoc {ℓ κ} : {S : Type ℓ} {A : Type κ} (f : S → A → S) (z : S) (xs : List A) (x : A) → run f z (xs ++ x ∷ []) ≡ f (run f z xs) x
 unfolding run
-run-snoc f z [] x = refl
-run-snoc f z (y ∷ ys) x = run-snoc f (f z y) ys x
+run_snoc f z [] x = refl
+run_snoc f z (y ∷ ys) x = run_snoc f (f z y) ys x
 
 -- over one element more of a list
 pub run_step {ℓ κ} : {S : Type ℓ} {A : Type κ} (f : S → A → S) (z : S) (xs : List A) (i : ℕ) (d : A) → i < length xs
     → run f z (take (i + 1) xs) ≡ f (run f z (take i xs)) (get_or xs i d)
-run_step f z xs i d h = rw (add-one i, take-suc xs i d h) (run-snoc f z (take i xs) (get_or xs i d))
+run_step f z xs i d h = rw (add-one i, take-suc xs i d h) (run_snoc f z (take i xs) (get_or xs i d))
 
 -- one element more is one more
-pub length-snoc {ℓ} : {A : Type ℓ} (xs : List A) (x : A) → length (xs ++ x ∷ []) ≡ suc (length xs)
-length-snoc [] x = refl
-length-snoc (y ∷ ys) x = ap suc (length-snoc ys x)
+pub length_snoc {ℓ} : {A : Type ℓ} (xs : List A) (x : A) → length (xs ++ x ∷ []) ≡ suc (length xs)
+length_snoc [] x = refl
+length_snoc (y ∷ ys) x = ap suc (length_snoc ys x)
 
 -- ---- indices
 -- what is found stands among them, and what is not found has their number
@@ -110,7 +110,7 @@ once_known us t o = go (member t us) refl
             let f : index_of (get_or us i []) us < length us = rw (o i l) l in
             rw (get_or-append us (t ∷ []) [] i l, index_front (get_or us i []) us (t ∷ []) f, o i l)
         at (no l) =
-            let f : i ≡ length us = omega (arith, length-snoc us t) in
+            let f : i ≡ length us = omega (arith, length_snoc us t) in
             rw (f, get_or-append_seam us t [] [], index_behind t us [] new)
 
 once_run : (us ts : List Text) → Once us → Once (run known us ts)
