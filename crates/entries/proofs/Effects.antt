@@ -119,9 +119,9 @@ module _ (s : Text) (t : Tally) (w : List ℕ) (a e : ℕ) (d : Field s t w a e)
     role_bad left y = refused check_role add_role s t w a e left BadName (rw (← good, y))
 
     module _ (y : not b ≡ false) (i : ℕ) (q : i ≡ index_of (part a e s) (texts_at s (region w 0 t.roles))) where
-      pub role_twice : (left : List ℕ) → i < t.roles → Steps check_role add_role s t w a e (Wrong RoleTwice) left
+      pub role_twice_lem : (left : List ℕ) → i < t.roles → Steps check_role add_role s t w a e (Wrong RoleTwice) left
       unfolding tables_at
-      role_twice left h =
+      role_twice_lem left h =
           refused check_role add_role s t w a e left RoleTwice (rw (← good, y, G.count_roles s t w d.fits, ← q, lt-ltb _ _ h))
 
       pub role_past : (left : List ℕ) (most : ℕ) → most ≡ 32 → t.roles ≤ i → most ≤ t.roles → Steps check_role add_role s t w a e (Wrong PastMost) left

@@ -93,9 +93,9 @@ module _ (s : Text) (t : Tally) (w : List ℕ) (f : Fits s t w) (j x : ℕ) wher
         region_apart w 651 t.constraints j x (omega arith),
       )
 
-  in_methods : 32 ≤ j → j < 64 → tables_at s t (set w j x) ≡ with_methods (tables_at s t w) (texts_at s (region (set w j x) 32 t.methods))
+  in_methods_lem : 32 ≤ j → j < 64 → tables_at s t (set w j x) ≡ with_methods (tables_at s t w) (texts_at s (region (set w j x) 32 t.methods))
   unfolding tables_at
-  in_methods l h =
+  in_methods_lem l h =
       rw (
         region_apart w 0 t.roles j x (omega arith),
         region_apart w 64 t.patterns j x (omega arith),
@@ -380,7 +380,7 @@ module _ (s : Text) (t : Tally) (w : List ℕ) (f : Fits s t w) (a e : ℕ) (fro
       let l : length (tables_at s t w).methods ≤ index_of (part a e s) (tables_at s t w).methods = omega (arith, count_methods s t w f) in
       let fv : Fits s u v = rw z (omega (arith, length-set w (32 + t.methods) (packed s a e))) in
       let r : tables_at s u v ≡ with_methods (tables_at s u w) ((tables_at s t w).methods ++ part a e s ∷ [])
-      = rw z (in_methods s u w (omega arith) (32 + t.methods) (packed s a e) (omega arith) (omega arith)
+      = rw z (in_methods_lem s u w (omega arith) (32 + t.methods) (packed s a e) (omega arith) (omega arith)
       ∙ ap (with_methods (tables_at s u w)) (named s w 32 t.methods a e (omega arith) from to short)) in
       covered s u v fv g ∙ ap (λ (T : Tables). with_covers T (on_last g T.covers)) r ∙ rw (indexed_new (part a e s) _ l)
 

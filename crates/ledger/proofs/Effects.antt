@@ -101,9 +101,9 @@ module _ (s : Text) (w : List ℕ) (p : ℕ) (t : Text) (o : Offered s w 0 p t) 
     unfolding ledger_at
     declared_by_lem = sym (index_member t (ledger_at s w).declared) ∙ rw (W.declared_many s w o.fits, ← q, ← n)
 
-    pub role_twice : d < c → Judged s w 0 p 9 w
+    pub role_twice_lem : d < c → Judged s w 0 p 9 w
     unfolding ledger_fault name_fits pattern_fits
-    role_twice h = refused s w 0 p t o role_twice (rw (← good, y, declared_by_lem, lt-ltb d c h))
+    role_twice_lem h = refused s w 0 p t o role_twice (rw (← good, y, declared_by_lem, lt-ltb d c h))
 
     module _ (l : c ≤ d) (most : ℕ) (m : most ≡ 32) (i : ℕ) (e : i ≡ index_of t (names_at s 3600 (get_or w 3701 0) w)) where
       at_end : d ≡ c

@@ -179,8 +179,8 @@ module _ (s : Text) (C : Counts) (w : List ℕ) (a : Apart C) (j x : ℕ) where
         names_apart s 3664 C.declared w j x (λ k. omega arith),
       )
 
-  in_methods : 3632 ≤ j → j < 3664 → ledger_by s C (set w j x) ≡ with_methods (ledger_by s C w) (names_at s 3632 C.methods (set w j x))
-  in_methods l h =
+  in_methods_lem : 3632 ≤ j → j < 3664 → ledger_by s C (set w j x) ≡ with_methods (ledger_by s C w) (names_at s 3632 C.methods (set w j x))
+  in_methods_lem l h =
       rw (
         records_apart s C.size w j x (omega arith),
         names_apart s 3600 C.roles w j x (λ k. omega arith),
@@ -339,7 +339,7 @@ module _ (s : Text) (w : List ℕ) (f : Fits w) (t : Text) (i x : ℕ) (says : n
         count_put s u (below_fits w f (3632 + i) x (omega arith)) 3702 (i + 1) (omega arith) (omega arith)
         (subst (λ (C : Counts). CountsFit (counts_with 3702 (i + 1) C)) (sym o) (omega arith))
         ∙ ap (λ (C : Counts). ledger_by s (counts_with 3702 (i + 1) C) u) o
-        ∙ in_methods s D w (omega arith) (3632 + i) x (omega arith) (omega arith)
+        ∙ in_methods_lem s D w (omega arith) (3632 + i) x (omega arith) (omega arith)
         ∙ ap (with_methods (ledger_at s w)) (names_append s 3632 i w x (omega arith) ∙ rw (says, e))
 
     pub method_name_fits : Fits (with_name 3632 3702 i x w)

@@ -1,6 +1,6 @@
 -- `adding::role` meets its contract: a law of Effects for each return.
 use borrow.Author.Rules.{rules}
-use Rattle.ledger.proofs.Effects.{role_name_sought, role_bad, role_twice, role_past_declared, role_past, role_kept}
+use Rattle.ledger.proofs.Effects.{role_name_sought, role_bad, role_twice_lem, role_past_declared, role_past, role_kept}
 use Rattle.ledger.proofs.adding.role.Goals as goal
 
 pub returns-then-not-is_role_name : goal.returns-then-not-is_role_name
@@ -10,7 +10,7 @@ pub find-d-requires : goal.find-d-requires
 find-d-requires c = search (rules, role_name_sought)
 
 pub returns-then-d-count : goal.returns-then-d-count
-returns-then-d-count c = search (rules, role_twice)
+returns-then-d-count c = search (rules, role_twice_lem)
 
 pub find-i-requires : goal.find-i-requires
 find-i-requires c = search (rules, role_name_sought)
