@@ -6,7 +6,7 @@
  *     names it. So two requests of one caller are answered alike if their best patterns stand in the same collections, and of these the same ones name
  *     their methods. The first such request is asked about.
  *   - A caller who is not logged in is asked about first. A grant to that caller is one to everybody, and closed is closed to everybody.
- *   - Else roles are asked about, many in one caller: a caller who is denied would be denied with fewer of them (login-never-loses), and a caller who
+ *   - Else roles are asked about, many in one caller: a caller who is denied would be denied with fewer of them (login_never_loses), and a caller who
  *     is granted is asked about again with each half of them. */
 #ifndef WIDENINGS_H
 #define WIDENINGS_H
