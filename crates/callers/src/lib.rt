@@ -2,7 +2,6 @@
 #![tactic(auto)]
 
 ghost use Rattle.std.specs.Prelude.{◌≡◌, ◌≤◌, ◌<◌, length};
-ghost use Rattle.text.specs.Bytes.{class_table};
 ghost use Rattle.text.specs.Lines.{lines_of};
 ghost use Rattle.reading.specs.Holds.{Holds};
 ghost use Rattle.reading.specs.Views.{view_at};
@@ -39,15 +38,15 @@ pub fn with_role(s: &[u8], w: &[u32], t: Tally, set: u64, name: &[u8]) -> u64
 }
 
 // The roles of a caller who is logged in.
-pub fn logged_in(table: &[u8; 256], s: &[u8], w: &[u32], t: Tally, names: &[u8]) -> Checked
-    requires { (table.now ≡ class_table) × Holds s.now t w.now }
+pub fn logged_in(s: &[u8], w: &[u32], t: Tally, names: &[u8]) -> Checked
+    requires { Holds s.now t w.now }
     ensures { result ≡ check_names (view_at s.now t w.now) 0 0 (lines_of names.now) }
 {
     let mut set = 0;
     let mut count: usize = 0;
     let mut at = 0;
     while at < names.len() {
-        let name = texts::scan(table, names, at);
+        let name = texts::scan(names, at);
         let e = name.end;
         let clean = name.clean;
         if names.len() <= e {
@@ -70,12 +69,12 @@ pub fn logged_in(table: &[u8; 256], s: &[u8], w: &[u32], t: Tally, names: &[u8])
 }
 
 // The caller of a login number and a text of names.
-pub fn caller(table: &[u8; 256], s: &[u8], w: &[u32], t: Tally, login: u32, names: &[u8]) -> Checked
-    requires { (table.now ≡ class_table) × Holds s.now t w.now }
+pub fn caller(s: &[u8], w: &[u32], t: Tally, login: u32, names: &[u8]) -> Checked
+    requires { Holds s.now t w.now }
     ensures { result ≡ check_caller (view_at s.now t w.now) login names.now }
 {
     if login == 1 {
-        return logged_in(table, s, w, t, names);
+        return logged_in(s, w, t, names);
     }
     if login != 0 {
         return Checked::Bad;

@@ -19,7 +19,7 @@ use entries::tables::Tally;
 use listings::answers::{BAD_CALLER, BAD_METHOD, BAD_PATH, SHORT_TABLE, number};
 use reading::reader::Loaded;
 use reading::{held, reader};
-use text::{bytes, texts};
+use text::texts;
 
 // A refusal, whose answer is 0.
 pub fn refuse(number: u32, side: u32, line: u32) -> Decision
@@ -83,14 +83,13 @@ pub fn decide_held(
     requires { HoldsListing s.now t w.now }
     ensures { result ≡ decide_request (asked s.now path.now method.now login names.now) }
 {
-    let table = bytes::classes();
-    if !matching::is_path(&table, path) {
+    if !matching::is_path(path) {
         return refuse(BAD_PATH, 0, 0);
     }
-    if !names::is_method_name(&table, method) {
+    if !names::is_method_name(method) {
         return refuse(BAD_METHOD, 0, 0);
     }
-    let h = callers::caller(&table, s, w, t, login, names);
+    let h = callers::caller(s, w, t, login, names);
     match h {
         Checked::Bad => refuse(BAD_CALLER, 0, 0),
         Checked::Good(who) => {

@@ -1,7 +1,7 @@
 // What one record does: it is refused, or the table grows by it. A record is its kind and its field, the bytes of s from a up to e.
 ghost use Rattle.std.specs.Prelude.{◌≡◌};
 ghost use Rattle.text.specs.Texts.{all, part};
-ghost use Rattle.text.specs.Bytes.{is_text, class_table};
+ghost use Rattle.text.specs.Bytes.{is_text};
 ghost use Rattle.entries.specs.Tables.{Field, Steps, StepOutcome, step_from, check_role, check_constraint, check_allow, check_collection, check_pattern, check_method, field_check, add_role, add_constraint, add_allow, add_collection, add_pattern, add_method, add_omit, field_add, tables_at, record_with};
 
 use crate::tables;
@@ -118,8 +118,8 @@ pub fn pattern(s: &[u8], w: &mut [u32], t: Tally, a: usize, e: usize, clean: boo
 }
 
 // `method⇥NAME`
-pub fn method(table: &[u8; 256], s: &[u8], w: &mut [u32], t: Tally, a: usize, e: usize) -> Stepped
-    requires { (table.now ≡ class_table) × Field s.now t w.old a e }
+pub fn method(s: &[u8], w: &mut [u32], t: Tally, a: usize, e: usize) -> Stepped
+    requires { Field s.now t w.old a e }
     ensures { Steps check_method add_method s.now t w.old a e result w.new }
 {
     let n = t.methods;
@@ -127,7 +127,7 @@ pub fn method(table: &[u8; 256], s: &[u8], w: &mut [u32], t: Tally, a: usize, e:
     let c = t.collections;
     let stage = t.stage;
     let fresh = records::is_first_method(stage);
-    if !names::is_method_name(table, &s[a..e]) {
+    if !names::is_method_name(&s[a..e]) {
         return Stepped::Wrong(Fault::BadName);
     }
     if most(Counted::MethodLines) <= lines {
@@ -147,14 +147,14 @@ pub fn method(table: &[u8; 256], s: &[u8], w: &mut [u32], t: Tally, a: usize, e:
 }
 
 // `omit⇥NAME`
-pub fn omit(table: &[u8; 256], s: &[u8], w: &mut [u32], t: Tally, a: usize, e: usize) -> Stepped
-    requires { (table.now ≡ class_table) × Field s.now t w.old a e }
+pub fn omit(s: &[u8], w: &mut [u32], t: Tally, a: usize, e: usize) -> Stepped
+    requires { Field s.now t w.old a e }
     ensures { Steps check_method add_omit s.now t w.old a e result w.new }
 {
     let n = t.methods;
     let lines = t.lines;
     let c = t.collections;
-    if !names::is_method_name(table, &s[a..e]) {
+    if !names::is_method_name(&s[a..e]) {
         return Stepped::Wrong(Fault::BadName);
     }
     if most(Counted::MethodLines) <= lines {
@@ -175,7 +175,6 @@ pub fn omit(table: &[u8; 256], s: &[u8], w: &mut [u32], t: Tally, a: usize, e: u
 
 // A record of kind k that may follow.
 pub fn field(
-    table: &[u8; 256],
     s: &[u8],
     w: &mut [u32],
     t: Tally,
@@ -184,7 +183,7 @@ pub fn field(
     e: usize,
     clean: bool,
 ) -> Stepped
-    requires { (table.now ≡ class_table) × (Field s.now t w.old a e × (clean ≡ all is_text (part a e s.now))) }
+    requires { Field s.now t w.old a e × (clean ≡ all is_text (part a e s.now)) }
     ensures { Steps (field_check k) (field_add k) s.now t w.old a e result w.new }
 {
     match k {
@@ -193,15 +192,14 @@ pub fn field(
         Kind::Allow => allow(s, w, t, a, e, clean),
         Kind::Collection => collection(s, w, t, a, e),
         Kind::Pattern => pattern(s, w, t, a, e, clean),
-        Kind::Method => method(table, s, w, t, a, e),
-        Kind::Omit => omit(table, s, w, t, a, e),
+        Kind::Method => method(s, w, t, a, e),
+        Kind::Omit => omit(s, w, t, a, e),
         Kind::End => Stepped::Next(t.at(Stage::AfterEnd)),
     }
 }
 
 // A record of kind k.
 pub fn step(
-    table: &[u8; 256],
     s: &[u8],
     w: &mut [u32],
     t: Tally,
@@ -210,12 +208,12 @@ pub fn step(
     e: usize,
     clean: bool,
 ) -> Stepped
-    requires { (table.now ≡ class_table) × (Field s.now t w.old a e × (clean ≡ all is_text (part a e s.now))) }
+    requires { Field s.now t w.old a e × (clean ≡ all is_text (part a e s.now)) }
     ensures { StepOutcome s.now (step_from (tables_at s.now t w.old) (record_with k (part a e s.now))) result w.new }
 {
     let stage = t.stage;
     if !records::may_follow(stage, k) {
         return Stepped::Wrong(Fault::WrongPlace);
     }
-    field(table, s, w, t, k, a, e, clean)
+    field(s, w, t, k, a, e, clean)
 }

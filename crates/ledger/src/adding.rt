@@ -1,13 +1,13 @@
 // A record judged by the rules and, where it breaks none, kept. Each answers 0 or the number of the rule that is broken.
 ghost use Rattle.std.specs.Prelude.{◌≡◌, ◌+◌, ◌*◌, ◌≤◌, ◌<◌, length, get_or};
 ghost use Rattle.text.specs.Texts.{all};
-ghost use Rattle.text.specs.Bytes.{is_text, class_table};
+ghost use Rattle.text.specs.Bytes.{is_text};
 ghost use Rattle.portals.specs.Outcomes.{fault_number};
 ghost use Rattle.ledger.specs.Places.{Fits, Offered, Judged, HasText, Guarded, long_fault, size_at, with_one, with_name, with_record, with_last};
 
 use crate::{keeping, searching};
 use limits::{Counted, most};
-use text::{bytes, texts};
+use text::texts;
 
 // What is written of a role: its name x, whose place is d among the declared ones and i among all.
 pub fn keep_role(w: &mut [u32], place: usize, d: usize, i: usize, x: u32)
@@ -92,11 +92,11 @@ pub fn keep_method(w: &mut [u32], kind: usize, place: usize, i: usize, x: u32)
 }
 
 // A method, or an omission.
-pub fn method(table: &[u8; 256], s: &[u8], w: &mut [u32], kind: usize, place: usize, t: &[u8]) -> u8
-    requires { (table.now ≡ class_table) × (Offered s.now w.old kind place t.now × (6 ≤ kind)) }
+pub fn method(s: &[u8], w: &mut [u32], kind: usize, place: usize, t: &[u8]) -> u8
+    requires { Offered s.now w.old kind place t.now × (6 ≤ kind) }
     ensures { Judged s.now w.old kind place result w.new }
 {
-    if !names::is_method_name(table, t) {
+    if !names::is_method_name(t) {
         return 6;
     }
     if most(Counted::MethodLines) <= keeping::count(w, keeping::LINES) {
@@ -146,14 +146,14 @@ pub fn constraint(s: &[u8], w: &mut [u32], kind: usize, place: usize) -> u8
 }
 
 // A record of which the text matters.
-pub fn named(table: &[u8; 256], s: &[u8], w: &mut [u32], kind: usize, place: usize, t: &[u8]) -> u8
-    requires { (table.now ≡ class_table) × (Offered s.now w.old kind place t.now × HasText kind) }
+pub fn named(s: &[u8], w: &mut [u32], kind: usize, place: usize, t: &[u8]) -> u8
+    requires { Offered s.now w.old kind place t.now × HasText kind }
     ensures { Judged s.now w.old kind place result w.new }
 {
     if 6 <= kind {
-        return method(table, s, w, kind, place, t);
+        return method(s, w, kind, place, t);
     }
-    let clean = texts::all_text(table, t);
+    let clean = texts::all_text(t);
     if kind == 0 {
         return role(s, w, place, t, clean);
     }
@@ -179,8 +179,7 @@ pub fn add(s: &[u8], w: &mut [u32], kind: u8, place: usize, t: &[u8]) -> u8
     if k == 2 {
         return constraint(s, w, k, place);
     }
-    let table = bytes::classes();
-    named(&table, s, w, k, place, t)
+    named(s, w, k, place, t)
 }
 
 // The number of the rule that a text of over 255 bytes breaks.

@@ -2,7 +2,6 @@
 #![tactic(auto)]
 
 ghost use Rattle.std.specs.Prelude.{◌≡◌, cond, ◌+◌, ◌≤◌, ◌<◌, length, take};
-ghost use Rattle.text.specs.Bytes.{class_table};
 ghost use Rattle.decisions.specs.Matching.{is_under};
 ghost use Rattle.decisions.specs.Paths.{is_dropped, dropped};
 ghost use Rattle.decisions.specs.Requests.{is_path};
@@ -11,8 +10,7 @@ ghost use Rattle.matching.specs.Strengths.{Ends, strength, rooted_strength, star
 use text::texts;
 
 // Whether p is a path: 1 to 1,024 text bytes, the first '/'.
-pub fn is_path(table: &[u8; 256], p: &[u8]) -> bool
-    requires { table.now ≡ class_table }
+pub fn is_path(p: &[u8]) -> bool
     ensures { result ≡ is_path p.now }
 {
     if p.len() < 1 {
@@ -21,7 +19,7 @@ pub fn is_path(table: &[u8; 256], p: &[u8]) -> bool
     if 1024 < p.len() {
         return false;
     }
-    if !texts::all_text(table, p) {
+    if !texts::all_text(p) {
         return false;
     }
     texts::starts_with(b"/", p)

@@ -3,7 +3,7 @@
 
 ghost use Rattle.std.specs.Prelude.{◌≡◌};
 ghost use Rattle.text.specs.Texts.{all};
-ghost use Rattle.text.specs.Bytes.{is_text, class_table};
+ghost use Rattle.text.specs.Bytes.{is_text};
 ghost use Rattle.names.specs.Names.{is_star, is_name, is_role_name, is_method_name, is_pattern, is_constraint_kind};
 ghost use Rattle.names.specs.Patterns.{is_extension, kind_of, is_permitted};
 
@@ -48,8 +48,7 @@ pub fn is_role_name(t: &[u8], clean: bool) -> bool
 }
 
 // Whether t is a method: 1 to 24 token bytes.
-pub fn is_method_name(table: &[u8; 256], t: &[u8]) -> bool
-    requires { table.now ≡ class_table }
+pub fn is_method_name(t: &[u8]) -> bool
     ensures { result ≡ is_method_name t.now }
 {
     if t.len() < 1 {
@@ -58,7 +57,7 @@ pub fn is_method_name(table: &[u8; 256], t: &[u8]) -> bool
     if 24 < t.len() {
         return false;
     }
-    texts::all_token(table, t)
+    texts::all_token(t)
 }
 
 // Whether t is a constraint's kind.

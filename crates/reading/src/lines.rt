@@ -28,14 +28,14 @@ pub fn ends_at(text: &[u8], e: usize) -> bool
 }
 
 // The line at an offset of the text.
-pub fn cut_at(table: &[u8; 256], text: &[u8], at: usize) -> Cut
-    requires { Standing table.now text.now at }
+pub fn cut_at(text: &[u8], at: usize) -> Cut
+    requires { Standing text.now at }
     ensures { result ≡ cut_of text.now at }
 {
     let head = records::head(&text[at..]);
     let named = head.named;
     let from = at + head.size;
-    let field = texts::scan(table, text, from);
+    let field = texts::scan(text, from);
     let whole = ends_at(text, field.end);
     Cut {
         named: named,

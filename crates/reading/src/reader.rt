@@ -1,7 +1,7 @@
 // The reader: line by line over a lent listing, with the lent work table as its memory. `load` makes it, and all of the listing is read through it.
 ghost use Rattle.std.specs.Prelude.{◌≡◌, ◌+◌, ◌≤◌, ◌<◌, length, drop};
 ghost use Rattle.text.specs.Texts.{bytes, all, part, starts_with};
-ghost use Rattle.text.specs.Bytes.{is_text, class_table};
+ghost use Rattle.text.specs.Bytes.{is_text};
 ghost use Rattle.text.specs.Lines.{lines_of};
 ghost use Rattle.listings.specs.Records.{record_named};
 ghost use Rattle.listings.specs.Refusals.{reading_of};
@@ -23,7 +23,7 @@ use limits::{Counted, most};
 use listings::answers;
 use listings::answers::{Fault, Report};
 use listings::records::{Kind, Named};
-use text::{bytes, texts};
+use text::texts;
 
 // An offset in the listing: the next byte, and the number of its line.
 #[derive(Clone, Copy)]
@@ -78,21 +78,20 @@ pub fn is_end(k: Kind) -> bool
 
 // A whole line, cut, that ends where the cut says.
 pub fn line_named(
-    table: &[u8; 256],
     s: &[u8],
     w: &mut [u32],
     t: Tally,
     c: Cursor,
     cut: Cut,
 ) -> Lined
-    requires { (table.now ≡ class_table) × (Field s.now t w.old cut.from cut.end × ((cut.clean ≡ all is_text (part cut.from cut.end s.now)) × LineEnd s.now c cut.end)) }
+    requires { Field s.now t w.old cut.from cut.end × ((cut.clean ≡ all is_text (part cut.from cut.end s.now)) × LineEnd s.now c cut.end) }
     ensures { LineOutcome s.now c (line_with (tables_at s.now t w.old) (record_named cut.named (part cut.from cut.end s.now)) (lines_of (drop (cut.end + 1) s.now))) result w.new }
 {
     let named = cut.named;
     match named {
         Named::Unknown => Lined::Bad(Fault::BadForm),
         Named::Known(k) => {
-            let stepped = steps::step(table, s, w, t, k, cut.from, cut.end, cut.clean);
+            let stepped = steps::step(s, w, t, k, cut.from, cut.end, cut.clean);
             match stepped {
                 Stepped::Wrong(f) => Lined::Bad(f),
                 Stepped::Next(u) => {
@@ -107,26 +106,26 @@ pub fn line_named(
 }
 
 // The line at the cursor.
-pub fn line(table: &[u8; 256], s: &[u8], w: &mut [u32], t: Tally, c: Cursor) -> Lined
-    requires { (table.now ≡ class_table) × (Fits s.now t w.old × ((c.at < length s.now) × (c.line ≤ 100000))) }
+pub fn line(s: &[u8], w: &mut [u32], t: Tally, c: Cursor) -> Lined
+    requires { Fits s.now t w.old × ((c.at < length s.now) × (c.line ≤ 100000)) }
     ensures { LineOutcome s.now c (line_from (tables_at s.now t w.old) (lines_of (drop c.at s.now))) result w.new }
 {
-    let cut = lines::cut_at(table, s, c.at);
+    let cut = lines::cut_at(s, c.at);
     if !cut.whole {
         return Lined::Bad(Fault::BadForm);
     }
-    line_named(table, s, w, t, c, cut)
+    line_named(s, w, t, c, cut)
 }
 
 // The lines from an offset on, of which the first is line 2.
-pub fn fill_lines(table: &[u8; 256], s: &[u8], w: &mut [u32], at: usize) -> Loaded
-    requires { (table.now ≡ class_table) × ((length s.now ≤ most_bytes) × ((1 ≤ at) × Ready s.now at w.old)) }
+pub fn fill_lines(s: &[u8], w: &mut [u32], at: usize) -> Loaded
+    requires { (length s.now ≤ most_bytes) × ((1 ≤ at) × Ready s.now at w.old) }
     ensures { FillOutcome s.now (fill_from start_tables 2 (lines_of (drop at s.now))) result w.new }
 {
     let mut t = Tally::start();
     let mut c = Cursor { at: at, line: 2 };
     while c.at < s.len() {
-        let lined = line(table, s, w, t, c);
+        let lined = line(s, w, t, c);
         match lined {
             Lined::Bad(f) => return Loaded::Not(f, c.line),
             Lined::Ended(u, d) => return closed(s, u, d),
@@ -190,8 +189,7 @@ pub fn fill_from(text: &[u8], at: usize, w: &mut [u32]) -> Loaded
     if at == 0 {
         return refused(text);
     }
-    let table = bytes::classes();
-    fill_lines(&table, text, w, at)
+    fill_lines(text, w, at)
 }
 
 // The reader: the lent text, and its offset in it. The borrow checker covers no function over it, so each is thin and leaves the work to one above.

@@ -1,9 +1,9 @@
 // The classes of the 256 byte values.
 ghost use Rattle.std.specs.Prelude.{◌≡◌};
-ghost use Rattle.text.specs.Bytes.{is_text, is_token, class_of, class_table};
+ghost use Rattle.text.specs.Bytes.{is_text, is_token, class_of};
 
 // 1 for text, 2 more for token.
-const CLASS: [u8; 256] = *b"\
+const CLASS: &[u8; 256] = b"\
     \x00\x00\x00\x00\x00\x00\x00\x00\x00\x00\x00\x00\x00\x00\x00\x00\
     \x00\x00\x00\x00\x00\x00\x00\x00\x00\x00\x00\x00\x00\x00\x00\x00\
     \x01\x03\x01\x03\x03\x03\x03\x03\x01\x01\x03\x03\x01\x03\x03\x01\
@@ -21,33 +21,23 @@ const CLASS: [u8; 256] = *b"\
     \x01\x01\x01\x01\x01\x01\x01\x01\x01\x01\x01\x01\x01\x01\x01\x01\
     \x01\x01\x01\x01\x01\x01\x01\x01\x01\x01\x01\x01\x01\x01\x01\x01";
 
-// The table as a value, made once in a call and lent: a constant is written out anew wherever it is indexed.
-pub fn classes() -> [u8; 256]
-    ensures { result ≡ class_table }
-{
-    CLASS
-}
-
 // The classes of b.
-pub fn class_in(table: &[u8; 256], b: u8) -> u8
-    requires { table.now ≡ class_table }
+pub fn class_of(b: u8) -> u8
     ensures { result ≡ class_of b }
 {
-    table[b as usize]
+    CLASS[b as usize]
 }
 
 // Whether b is a text byte.
-pub fn is_text(table: &[u8; 256], b: u8) -> bool
-    requires { table.now ≡ class_table }
+pub fn is_text(b: u8) -> bool
     ensures { result ≡ is_text b }
 {
-    class_in(table, b) % 2 == 1
+    class_of(b) % 2 == 1
 }
 
 // Whether b is a token byte.
-pub fn is_token(table: &[u8; 256], b: u8) -> bool
-    requires { table.now ≡ class_table }
+pub fn is_token(b: u8) -> bool
     ensures { result ≡ is_token b }
 {
-    2 <= class_in(table, b)
+    2 <= class_of(b)
 }

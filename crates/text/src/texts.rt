@@ -1,7 +1,7 @@
 // Texts compared and scanned.
 ghost use Rattle.std.specs.Prelude.{◌≡◌, true, ◌+◌, ◌≤◌, length, drop};
 ghost use Rattle.text.specs.Texts.{same, has, all, starts_with, ends_with, part, bytes};
-ghost use Rattle.text.specs.Bytes.{is_text, is_token, class_table};
+ghost use Rattle.text.specs.Bytes.{is_text, is_token};
 ghost use Rattle.text.specs.Lines.{to_field_end};
 
 use crate::bytes;
@@ -10,17 +10,7 @@ use crate::bytes;
 pub fn are_same(t: &[u8], u: &[u8]) -> bool
     ensures { result ≡ same t.now u.now }
 {
-    if t.len() != u.len() {
-        return false;
-    }
-    let mut i = 0;
-    while i < t.len() {
-        if t[i] != u[i] {
-            return false;
-        }
-        i += 1;
-    }
-    true
+    t == u
 }
 
 // Whether t has the byte b, every byte looked at: such a loop the compiler makes one over 32 bytes at a time.
@@ -28,10 +18,8 @@ pub fn any_is(b: u8, t: &[u8]) -> bool
     ensures { result ≡ has b t.now }
 {
     let mut found = false;
-    let mut i = 0;
-    while i < t.len() {
-        found = found | (b == t[i]);
-        i += 1;
+    for x in t {
+        found |= b == *x;
     }
     found
 }
@@ -72,10 +60,8 @@ pub fn all_same(t: &[u8], u: &[u8]) -> bool
     ensures { result ≡ same t.now u.now }
 {
     let mut alike = true;
-    let mut i = 0;
-    while i < t.len() {
-        alike = alike & (t[i] == u[i]);
-        i += 1;
+    for (x, y) in t.iter().zip(u) {
+        alike &= x == y;
     }
     alike
 }
@@ -139,55 +125,29 @@ pub fn ends_with(e: &[u8], t: &[u8]) -> bool
 }
 
 // Whether every byte of t is a text byte.
-pub fn all_text(table: &[u8; 256], t: &[u8]) -> bool
-    requires { table.now ≡ class_table }
+pub fn all_text(t: &[u8]) -> bool
     ensures { result ≡ all is_text t.now }
 {
-    let mut i = 0;
-    while i < t.len() {
-        if !bytes::is_text(table, t[i]) {
-            return false;
-        }
-        i += 1;
-    }
-    true
+    t.iter().all(|b| bytes::is_text(*b))
 }
 
 // Whether every byte of t is a token byte.
-pub fn all_token(table: &[u8; 256], t: &[u8]) -> bool
-    requires { table.now ≡ class_table }
+pub fn all_token(t: &[u8]) -> bool
     ensures { result ≡ all is_token t.now }
 {
-    let mut i = 0;
-    while i < t.len() {
-        if !bytes::is_token(table, t[i]) {
-            return false;
-        }
-        i += 1;
-    }
-    true
+    t.iter().all(|b| bytes::is_token(*b))
 }
 
 // Whether the four bytes of t are all text bytes.
-pub fn four_text(table: &[u8; 256], t: &[u8]) -> bool
-    requires { (table.now ≡ class_table) × (length t.now ≡ 4) }
+pub fn four_text(t: &[u8]) -> bool
+    requires { length t.now ≡ 4 }
     ensures { result ≡ all is_text t.now }
 {
-    if !bytes::is_text(table, t[0]) {
-        return false;
-    }
-    if !bytes::is_text(table, t[1]) {
-        return false;
-    }
-    if !bytes::is_text(table, t[2]) {
-        return false;
-    }
-    bytes::is_text(table, t[3])
+    bytes::is_text(t[0]) && bytes::is_text(t[1]) && bytes::is_text(t[2]) && bytes::is_text(t[3])
 }
 
 // An offset behind some text bytes of s that stand from `at` on, taken four at a time.
-pub fn past_text(table: &[u8; 256], s: &[u8], at: usize) -> usize
-    requires { table.now ≡ class_table }
+pub fn past_text(s: &[u8], at: usize) -> usize
     ensures begun { at ≤ result }
     ensures ahead { at + to_field_end (drop at s.now) ≡ result + to_field_end (drop result s.now) }
     ensures clean { true ≡ all is_text (part at result s.now) }
@@ -199,7 +159,7 @@ pub fn past_text(table: &[u8; 256], s: &[u8], at: usize) -> usize
     let last = s.len() - 4;
     while i <= last {
         let next = i + 4;
-        if !four_text(table, &s[i..next]) {
+        if !four_text(&s[i..next]) {
             return i;
         }
         i = next;
@@ -215,34 +175,31 @@ pub struct Scanned {
 }
 
 // The field of s that begins at `at`.
-pub fn scan(table: &[u8; 256], s: &[u8], at: usize) -> Scanned
-    requires { table.now ≡ class_table }
+pub fn scan(s: &[u8], at: usize) -> Scanned
     ensures end { result.end ≡ at + to_field_end (drop at s.now) }
     ensures clean { result.clean ≡ all is_text (part at result.end s.now) }
 {
     let mut clean = true;
-    let mut i = past_text(table, s, at);
-    while i < s.len() {
+    for i in past_text(s, at)..s.len() {
         let b = s[i];
-        if !bytes::is_text(table, b) {
+        if !bytes::is_text(b) {
             if b == b'\t' {
                 return Scanned {
                     end: i,
-                    clean: clean,
+                    clean,
                 };
             }
             if b == b'\n' {
                 return Scanned {
                     end: i,
-                    clean: clean,
+                    clean,
                 };
             }
             clean = false;
         }
-        i += 1;
     }
     Scanned {
-        end: i,
-        clean: clean,
+        end: s.len(),
+        clean,
     }
 }
