@@ -2,6 +2,8 @@
 use Rattle.std.specs.Prelude.{◌≡◌, Bool, false, cond, ◌||◌, ℕ, ◌+◌, ◌-◌, ◌≤◌, eqb, length, drop}
 use Rattle.text.specs.Texts.{Text, bytes, part}
 use Rattle.documents.specs.Parts.{Fault, malformed, deep, unwanted, bad_name, bad_pattern, role_twice, past_most, Got, got, fault, Reader, ◌>>◌, word, name, remark, white, attributes, tag_end, start_tag}
+use Rattle.markup.specs.declared.answers.Cause.{Cause}
+use Rattle.markup.specs.declared.answers.Cause.TheVariants.{Malformed, Deep, Unwanted, BadName, BadPattern, RoleTwice, PastMost}
 use Rattle.markup.specs.declared.answers.At.{At}
 use Rattle.markup.specs.declared.answers.Letter.{Letter}
 use Rattle.markup.specs.declared.answers.Ended.{Ended}
@@ -19,6 +21,29 @@ number bad_name = 6
 number bad_pattern = 7
 number role_twice = 9
 number past_most = 8
+
+-- a fault of `documents` as the code says it, and back
+abbrev pub cause_of : Fault → Cause
+cause_of malformed = Malformed
+cause_of deep = Deep
+cause_of unwanted = Unwanted
+cause_of bad_name = BadName
+cause_of bad_pattern = BadPattern
+cause_of role_twice = RoleTwice
+cause_of past_most = PastMost
+
+abbrev pub fault_of : Cause → Fault
+fault_of Malformed = malformed
+fault_of Deep = deep
+fault_of Unwanted = unwanted
+fault_of BadName = bad_name
+fault_of BadPattern = bad_pattern
+fault_of RoleTwice = role_twice
+fault_of PastMost = past_most
+
+-- its number
+abbrev pub number_of : Cause → ℕ
+number_of c = number (fault_of c)
 
 -- an answer, in a text of so many bytes
 abbrev pub placed : {A : Type 0} → ℕ → Got A → At

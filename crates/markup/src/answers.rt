@@ -1,6 +1,42 @@
 // What is handed back, and where a fault is put.
 ghost use Rattle.std.specs.Prelude.{◌≡◌};
-ghost use Rattle.markup.specs.Places.{blame_at};
+ghost use Rattle.markup.specs.Places.{blame_at, number_of};
+
+// The faults of a file.
+#[derive(Clone, Copy, PartialEq, Eq)]
+pub enum Cause {
+    Malformed,
+    Deep,
+    Unwanted,
+    BadName,
+    BadPattern,
+    RoleTwice,
+    PastMost,
+}
+
+// The number of the refusal.
+impl From<Cause> for u32 {
+    ghost from_gives = { λ c n. n ≡ number_of c };
+
+    fn from(c: Cause) -> u32 {
+        match c {
+            Cause::Malformed => 17,
+            Cause::Deep => 18,
+            Cause::Unwanted => 19,
+            Cause::BadName => 6,
+            Cause::BadPattern => 7,
+            Cause::RoleTwice => 9,
+            Cause::PastMost => 8,
+        }
+    }
+}
+
+// A fault, and the place where it is put.
+#[derive(Clone, Copy)]
+pub struct Fault {
+    pub cause: Cause,
+    pub at: usize,
+}
 
 // Where reading got to: fault 0 and the place behind what was read, or the refusal's number and the place of the fault.
 #[derive(Clone, Copy)]
