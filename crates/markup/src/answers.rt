@@ -1,8 +1,8 @@
-// What is handed back, and where a fault is put.
+// What is handed back: why a text is refused and where, and what is read with the place behind it.
 ghost use Rattle.std.specs.Prelude.{◌≡◌};
-ghost use Rattle.markup.specs.Places.{blame_at, number_of};
+ghost use Rattle.markup.specs.Places.{number_of, blame, put_at};
 
-// The faults of a file.
+// What is wrong with a file, or with what it says.
 #[derive(Clone, Copy, PartialEq, Eq)]
 pub enum Cause {
     Malformed,
@@ -14,12 +14,12 @@ pub enum Cause {
     PastMost,
 }
 
-// The number of the refusal.
+// The number that a caller is told.
 impl From<Cause> for u32 {
-    ghost from_gives = { λ c n. n ≡ number_of c };
+    ghost from_gives = { λ cause number. number ≡ number_of cause };
 
-    fn from(c: Cause) -> u32 {
-        match c {
+    fn from(cause: Cause) -> u32 {
+        match cause {
             Cause::Malformed => 17,
             Cause::Deep => 18,
             Cause::Unwanted => 19,
@@ -38,50 +38,49 @@ pub struct Fault {
     pub at: usize,
 }
 
-// Where reading got to: fault 0 and the place behind what was read, or the refusal's number and the place of the fault.
-#[derive(Clone, Copy)]
-pub struct At {
-    pub fault: u8,
-    pub next: usize,
+impl Fault {
+    // What is no XML, at `at`.
+    pub fn malformed(at: usize) -> Fault
+        ensures { result ≡ blame Cause.Malformed at }
+    {
+        Fault {
+            cause: Cause::Malformed,
+            at,
+        }
+    }
+
+    // The fault put at `here`, unless the text of `len` bytes runs out.
+    pub fn blamed(self, here: usize, len: usize) -> Fault
+        ensures { result ≡ put_at here len self }
+    {
+        if self.at == len {
+            return self;
+        }
+        Fault {
+            cause: self.cause,
+            at: here,
+        }
+    }
 }
 
-// The same of a letter, and the byte that was read (0 beside a fault).
+// A byte that was read, and the place behind it.
 #[derive(Clone, Copy)]
 pub struct Letter {
-    pub fault: u8,
-    pub next: usize,
     pub byte: u8,
+    pub next: usize,
 }
 
-// The same of the end of a first tag, and whether content follows (false beside a fault).
+// The end of a first tag: whether content follows, and the place behind it.
 #[derive(Clone, Copy)]
 pub struct Ended {
-    pub fault: u8,
-    pub next: usize,
     pub full: bool,
+    pub next: usize,
 }
 
-// The same of a first tag; its name goes up to the place `end`, and `full` says whether content follows.
+// A first tag: its name goes up to the place `end`, `full` says whether content follows, and `next` is the place behind it.
 #[derive(Clone, Copy)]
 pub struct Start {
-    pub fault: u8,
-    pub next: usize,
     pub end: usize,
     pub full: bool,
-}
-
-// The fault of r put at `here`, unless the text of `len` bytes runs out.
-pub fn blame(r: At, here: usize, len: usize) -> At
-    ensures { result ≡ blame_at here len r }
-{
-    if r.fault == 0 {
-        return r;
-    }
-    if r.next == len {
-        return r;
-    }
-    At {
-        fault: r.fault,
-        next: here,
-    }
+    pub next: usize,
 }

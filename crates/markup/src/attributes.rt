@@ -1,99 +1,59 @@
 // The attributes of a tag.
 ghost use Rattle.std.specs.Prelude.{◌≡◌, ◌≤◌, length, drop};
 ghost use Rattle.documents.specs.Parts.{quote_mark, value, quoted, is_attribute, attribute, attributes};
-ghost use Rattle.markup.specs.Places.{Within, read_at};
+ghost use Rattle.markup.specs.Places.{Within, place_of, read_at};
 
-use crate::answers::At;
+use crate::answers::Fault;
 use crate::{chars, letters, words};
 
 // What stands from `at` on in the quotes q.
-pub fn value(s: &[u8], at: usize, q: u8) -> At
+pub fn value(s: &[u8], at: usize, q: u8) -> Result<usize, Fault>
     requires { at ≤ length s.now }
-    ensures within { Within s.now at result.next }
+    ensures within { Within s.now at (place_of result) }
     ensures exact { result ≡ read_at (value q) s.now at }
 {
     let mut n = at;
-    while n < s.len() {
-        let b = s[n];
-        let m = n + 1;
-        if b == q {
-            return At { fault: 0, next: n };
-        }
-        if chars::is_plain(b) {
-            n = m;
-        } else {
-            let g = letters::letter(s, n, n);
-            if g.fault != 0 {
-                return At {
-                    fault: g.fault,
-                    next: g.next,
-                };
-            }
-            n = g.next;
-        }
+    while n < s.len() && s[n] != q {
+        n = letters::letter(s, n, n)?.next;
     }
-    At { fault: 0, next: n }
+    Ok(n)
 }
 
 // A quote at `at`.
-pub fn quote(s: &[u8], at: usize) -> At
+pub fn quote(s: &[u8], at: usize) -> Result<usize, Fault>
     requires { at ≤ length s.now }
-    ensures within { Within s.now at result.next }
+    ensures within { Within s.now at (place_of result) }
     ensures exact { result ≡ read_at quote_mark s.now at }
 {
-    if s.len() <= at {
-        return At {
-            fault: 17,
-            next: at,
-        };
+    if at < s.len() && chars::is_quote(s[at]) {
+        return Ok(at + 1);
     }
-    if !chars::is_quote(s[at]) {
-        return At {
-            fault: 17,
-            next: at,
-        };
-    }
-    At {
-        fault: 0,
-        next: at + 1,
-    }
+    Err(Fault::malformed(at))
 }
 
 // A value in quotes at `at`.
-pub fn quoted(s: &[u8], at: usize) -> At
+pub fn quoted(s: &[u8], at: usize) -> Result<usize, Fault>
     requires { at ≤ length s.now }
-    ensures within { Within s.now at result.next }
+    ensures within { Within s.now at (place_of result) }
     ensures exact { result ≡ read_at quoted s.now at }
 {
-    let g = quote(s, at);
-    if g.fault != 0 {
-        return g;
-    }
+    let a = quote(s, at)?;
     let q = s[at];
-    let v = value(s, g.next, q);
-    if v.fault != 0 {
-        return v;
-    }
-    words::byte(s, v.next, q)
+    let e = value(s, a, q)?;
+    words::byte(s, e, q)
 }
 
 // An attribute at `at`: white space, a name, `=` and a value.
-pub fn attribute(s: &[u8], at: usize) -> At
+pub fn attribute(s: &[u8], at: usize) -> Result<usize, Fault>
     requires { at ≤ length s.now }
-    ensures within { Within s.now at result.next }
+    ensures within { Within s.now at (place_of result) }
     ensures exact { result ≡ read_at attribute s.now at }
 {
     let a = words::white(s, at);
-    let n = words::name(s, a);
-    if n.fault != 0 {
-        return n;
-    }
-    let b = words::white(s, n.next);
-    let e = words::byte(s, b, b'=');
-    if e.fault != 0 {
-        return e;
-    }
-    let c = words::white(s, e.next);
+    let n = words::name(s, a)?;
+    let b = words::white(s, n);
+    let e = words::byte(s, b, b'=')?;
+    let c = words::white(s, e);
     quoted(s, c)
 }
 
@@ -102,32 +62,22 @@ pub fn is_attribute(s: &[u8], at: usize) -> bool
     requires { at ≤ length s.now }
     ensures { result ≡ is_attribute (drop at s.now) }
 {
-    if s.len() <= at {
-        return false;
-    }
-    if !chars::is_white(s[at]) {
+    if at == s.len() || !chars::is_white(s[at]) {
         return false;
     }
     let n = words::white(s, at);
-    if s.len() <= n {
-        return false;
-    }
-    chars::is_name_start(s[n])
+    n < s.len() && chars::is_name_start(s[n])
 }
 
 // The attributes from `at` on.
-pub fn all_of(s: &[u8], at: usize) -> At
+pub fn all_of(s: &[u8], at: usize) -> Result<usize, Fault>
     requires { at ≤ length s.now }
-    ensures within { Within s.now at result.next }
+    ensures within { Within s.now at (place_of result) }
     ensures exact { result ≡ read_at attributes s.now at }
 {
     let mut n = at;
     while is_attribute(s, n) {
-        let g = attribute(s, n);
-        if g.fault != 0 {
-            return g;
-        }
-        n = g.next;
+        n = attribute(s, n)?;
     }
-    At { fault: 0, next: n }
+    Ok(n)
 }

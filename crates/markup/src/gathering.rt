@@ -1,10 +1,11 @@
 // The letters of a text up to the next tag, gathered into a lent buffer without the white space at both ends. What doesn't fit is not written, and counted all the same.
-ghost use Rattle.std.specs.Prelude.{◌≡◌, [], ◌-◌, ◌≤◌, ◌<◌, length, take};
+ghost use Rattle.std.specs.Prelude.{◌≡◌, [], ◌-◌, ◌≤◌, ◌<◌, length, take, IfOk};
 ghost use Rattle.documents.specs.Parts.{letters, trimmed};
-ghost use Rattle.markup.specs.Places.{Within, read_at, read_or};
+ghost use Rattle.markup.specs.Places.{Within, place_of, read_as, read_or};
 ghost use Rattle.markup.specs.Gatherings.{keeps, keep_one};
-ghost use Rattle.markup.specs.Tallies.{tally, taken_at, taken_tally, gathered_at};
+ghost use Rattle.markup.specs.Tallies.{tally, tallied, taken_at, taken_tally, gathered, gathered_at};
 
+use crate::answers::Fault;
 use crate::{chars, comments, letters, words};
 use writing;
 
@@ -15,21 +16,18 @@ pub struct Kept {
     pub size: usize,
 }
 
-// Where reading got to, and what is kept then.
+// What is kept, and the place behind what was read.
 #[derive(Clone, Copy)]
 pub struct Taken {
-    pub fault: u8,
+    pub kept: Kept,
     pub next: usize,
-    pub kept: usize,
-    pub size: usize,
 }
 
-// Where reading got to, and how many bytes were gathered (0 beside a fault).
+// How many bytes were gathered, and the place behind what was read.
 #[derive(Clone, Copy)]
 pub struct Gathered {
-    pub fault: u8,
-    pub next: usize,
     pub len: usize,
+    pub next: usize,
 }
 
 // One letter more.
@@ -38,90 +36,55 @@ pub fn keep(out: &mut [u8], k: Kept, b: u8) -> Kept
     ensures { tally result out.new ≡ keeps (tally k out.old) b }
 {
     let w = chars::is_white(b);
-    if (k.kept == 0) & w {
+    if k.kept == 0 && w {
         return k;
     }
     writing::store(out, k.kept, b);
-    let n = k.kept + 1;
-    if w {
-        return Kept {
-            kept: n,
-            size: k.size,
-        };
+    let kept = k.kept + 1;
+    Kept {
+        kept,
+        size: if w { k.size } else { kept },
     }
-    Kept { kept: n, size: n }
 }
 
 // A letter or a comment at `at`.
-pub fn take_one(s: &[u8], at: usize, here: usize, out: &mut [u8], k: Kept) -> Taken
+pub fn take_one(s: &[u8], at: usize, here: usize, out: &mut [u8], k: Kept) -> Result<Taken, Fault>
     requires { (at ≤ length s.now) × (here ≤ at) × (k.kept < 65536) }
-    ensures within { Within s.now here result.next }
-    ensures exact { taken_at result ≡ read_at (keep_one (length s.now - here) (tally k out.old)) s.now at }
-    ensures value { taken_tally result out.new ≡ read_or (taken_tally result out.new) (keep_one (length s.now - here) (tally k out.old)) s.now at }
+    ensures within { Within s.now here (place_of (taken_at result)) }
+    ensures exact { taken_tally result out.new ≡ read_as tallied (keep_one (length s.now - here) (tally k out.old)) s.now at }
 {
     if words::is_tag(s, at) {
-        let g = comments::comment(s, at);
-        return Taken {
-            fault: g.fault,
-            next: g.next,
-            kept: k.kept,
-            size: k.size,
-        };
+        let next = comments::comment(s, at)?;
+        return Ok(Taken { kept: k, next });
     }
-    let l = letters::letter(s, at, here);
-    if l.fault != 0 {
-        return Taken {
-            fault: l.fault,
-            next: l.next,
-            kept: k.kept,
-            size: k.size,
-        };
-    }
-    let z = keep(out, k, l.byte);
-    Taken {
-        fault: 0,
-        next: l.next,
-        kept: z.kept,
-        size: z.size,
-    }
+    let l = letters::letter(s, at, here)?;
+    let kept = keep(out, k, l.byte);
+    Ok(Taken { kept, next: l.next })
 }
 
 // The letters from `at` on, up to the next tag, into out.
-pub fn gather(s: &[u8], at: usize, here: usize, out: &mut [u8]) -> Gathered
+pub fn gather(s: &[u8], at: usize, here: usize, out: &mut [u8]) -> Result<Gathered, Fault>
     requires { (at ≤ length s.now) × (here ≤ at) × (length s.now ≤ 65536) }
-    ensures within { Within s.now here result.next }
-    ensures exact { gathered_at result ≡ read_at (letters (length s.now - here)) s.now at }
-    ensures size { result.len ≡ length (trimmed (read_or [] (letters (length s.now - here)) s.now at)) }
-    ensures text { result.len ≤ length out.new → take result.len out.new ≡ trimmed (read_or [] (letters (length s.now - here)) s.now at) }
+    ensures within { Within s.now here (place_of (gathered_at result)) }
+    ensures exact { result ≡ read_as gathered (letters (length s.now - here)) s.now at }
+    ensures text { IfOk result (λ g. g.len ≤ length out.new → take g.len out.new ≡ trimmed (read_or [] (letters (length s.now - here)) s.now at)) }
     ensures kept { length out.new ≡ length out.old }
 {
     let mut n = at;
     let mut k = Kept { kept: 0, size: 0 };
     while words::goes_on(s, n) {
         let b = s[n];
-        let m = n + 1;
         if chars::is_plain(b) {
             k = keep(out, k, b);
-            n = m;
+            n += 1;
         } else {
-            let t = take_one(s, n, here, out, k);
-            if t.fault != 0 {
-                return Gathered {
-                    fault: t.fault,
-                    next: t.next,
-                    len: 0,
-                };
-            }
+            let t = take_one(s, n, here, out, k)?;
             n = t.next;
-            k = Kept {
-                kept: t.kept,
-                size: t.size,
-            };
+            k = t.kept;
         }
     }
-    Gathered {
-        fault: 0,
-        next: n,
+    Ok(Gathered {
         len: k.size,
-    }
+        next: n,
+    })
 }
