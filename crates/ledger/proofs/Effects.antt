@@ -3,6 +3,7 @@ use mathlib.Core.Path.{◌≡◌, refl, sym, ap, subst, ◌∙◌}
 use mathlib.Core.Bool.{Bool, true, false, not, cond, ◌&&◌, ◌||◌}
 use mathlib.Core.List.{List, []}
 use mathlib.Core.Option.{none, some}
+use Rattle.std.specs.Prelude.{Result, Ok, Err}
 use Prim.Native.Nat.{ℕ, zero, suc, ◌+◌, ◌*◌, ◌≤◌, ◌<◌}
 use native.Mathlib.Omega.{arith}
 use native.Mathlib.Decide.{dec_lt}
@@ -23,11 +24,16 @@ use Rattle.listings.specs.Fields.{name_fits, pattern_fits}
 use Rattle.listings.specs.declared.records.Kind.{Kind}
 use Rattle.listings.specs.declared.records.Kind.TheVariants.{Role, Constraint, Allow, Collection, Pattern, Method, Omit}
 use Rattle.portals.specs.Records.{record_of}
-use Rattle.portals.specs.Outcomes.{fault_number}
+use Rattle.markup.specs.declared.answers.Cause.{Cause}
+use Rattle.markup.specs.declared.answers.Cause.TheVariants as C
+use Rattle.markup.specs.Places.{cause_of}
 use Rattle.ledger.specs.Ledgers.{Ledger, is_full, ledger_fault, kept}
 use Rattle.ledger.specs.Places.{text_at, field_by, kind_by, record_by, record_at, name_at, names_at, ledger_at, Fits, Added, Offered, Judged, HasText, Sought, name_number, with_one, with_name, with_record, with_last, long_fault}
 use Rattle.ledger.proofs.Stamps.{number_says}
 use Rattle.ledger.proofs.Writes as W
+
+abbrev Answer : Type 0
+Answer = Result (Unit {0}) Cause
 
 -- ---- names that are looked for
 made_short : (class : ℕ → Bool) (hi : ℕ) (t : Text) → made_of class 1 hi t ≡ true → (1 ≤ length t) × (length t ≤ hi)
@@ -66,17 +72,17 @@ number_record s k p h = rw (digits_div p h, digits_mod p h)
 
 module _ (s : Text) (w : List ℕ) (k p : ℕ) (t : Text) (o : Offered s w k p t) where
   -- the field is the text that is lent
-  as_lent : (n : ℕ) (left : List ℕ) → Added s (ledger_at s w) (record_of (kind_by k) t) n left → Judged s w k p n left
+  as_lent : (n : Answer) (left : List ℕ) → Added s (ledger_at s w) (record_of (kind_by k) t) n left → Judged s w k p n left
   as_lent n left a = subst (λ (u : Text). Added s (ledger_at s w) (record_of (kind_by k) u) n left) (sym o.text) a
 
-  refused : (f : Fault) → ledger_fault (ledger_at s w) (record_of (kind_by k) t) ≡ some f → Judged s w k p (fault_number f) w
-  refused f e = as_lent (fault_number f) w (record { answer = rw e refl; fits = o.fits })
+  refused : (f : Fault) → ledger_fault (ledger_at s w) (record_of (kind_by k) t) ≡ some f → Judged s w k p (Err (cause_of f)) w
+  refused f e = as_lent (Err (cause_of f)) w (record { answer = rw e refl; fits = o.fits })
 
   -- the record's number put behind the others, where names and counts are kept in u
   taken : (u : List ℕ) (M : Ledger) → Fits u → ledger_at s u ≡ M → ledger_fault (ledger_at s w) (record_of (kind_by k) t) ≡ none
-      → W.recorded M (record_of (kind_by k) t) ≡ kept (ledger_at s w) (record_of (kind_by k) t) → Judged s w k p 0 (with_record (p * 8 + k) u)
+      → W.recorded M (record_of (kind_by k) t) ≡ kept (ledger_at s w) (record_of (kind_by k) t) → Judged s w k p (Ok tt) (with_record (p * 8 + k) u)
   taken u M f h e all_kept =
-      as_lent 0 (with_record (p * 8 + k) u) (record { answer = rw e (refl, put_last); fits = W.record_fits s u f (p * 8 + k) })
+      as_lent (Ok tt) (with_record (p * 8 + k) u) (record { answer = rw e (refl, put_last); fits = W.record_fits s u f (p * 8 + k) })
     where
       put_last : ledger_at s (with_record (p * 8 + k) u) ≡ kept (ledger_at s w) (record_of (kind_by k) t)
       put_last =
@@ -92,7 +98,7 @@ text_of s k p h = rw (ne_eqb k 1 h.0, ne_eqb k 2 h.1, ne_eqb k 4 h.2)
 
 -- ---- a role
 module _ (s : Text) (w : List ℕ) (p : ℕ) (t : Text) (o : Offered s w 0 p t) (b : Bool) (good : b ≡ is_role_name t) where
-  pub role_bad : not b ≡ true → Judged s w 0 p 6 w
+  pub role_bad : not b ≡ true → Judged s w 0 p (Err C.BadName) w
   unfolding ledger_fault name_fits
   role_bad y = refused s w 0 p t o bad_name (rw (← good, y))
 
@@ -101,7 +107,7 @@ module _ (s : Text) (w : List ℕ) (p : ℕ) (t : Text) (o : Offered s w 0 p t) 
     unfolding ledger_at
     declared_by_lem = sym (index_member t (ledger_at s w).declared) ∙ rw (W.declared_many s w o.fits, ← q, ← n)
 
-    pub role_twice_lem : d < c → Judged s w 0 p 9 w
+    pub role_twice_lem : d < c → Judged s w 0 p (Err C.RoleTwice) w
     unfolding ledger_fault name_fits pattern_fits
     role_twice_lem h = refused s w 0 p t o role_twice (rw (← good, y, declared_by_lem, lt-ltb d c h))
 
@@ -119,14 +125,12 @@ module _ (s : Text) (w : List ℕ) (p : ℕ) (t : Text) (o : Offered s w 0 p t) 
       unfolding ledger_fault name_fits pattern_fits
       role_fault x h = rw (← good, y, declared_by_lem, le-ltb d c l, role_full, h)
 
-      pub role_past_declared : most ≤ d → Judged s w 0 p 8 w
-      role_past_declared h = refused s w 0 p t o past_most (role_fault true (rw (le-leb 32 d (omega arith))))
-
-      pub role_past : d < most → most ≤ i → Judged s w 0 p 8 w
-      role_past g h = refused s w 0 p t o past_most (role_fault true (rw (lt-leb 32 d (omega arith), le-leb 32 i (omega arith))))
+      pub role_past : (most ≤ d) ⊎ ((d < most) × (most ≤ i)) → Judged s w 0 p (Err C.PastMost) w
+      role_past (inl h) = refused s w 0 p t o past_most (role_fault true (rw (le-leb 32 d (omega arith))))
+      role_past (inr (g, h)) = refused s w 0 p t o past_most (role_fault true (rw (lt-leb 32 d (omega arith), le-leb 32 i (omega arith))))
 
       pub role_kept : (x : ℕ) (left : List ℕ) → d < most → i < most → x ≡ name_number p t
-          → left ≡ with_record (p * 8 + 0) (with_name 3600 3701 i x (with_name 3664 3703 d x w)) → Judged s w 0 p 0 left
+          → left ≡ with_record (p * 8 + 0) (with_name 3600 3701 i x (with_name 3664 3703 d x w)) → Judged s w 0 p (Ok tt) left
       unfolding kept ledger_at names_role known field_by
       role_kept x left g h a z =
           rw z (taken s w 0 p t o (with_name 3600 3701 i x u) _ (W.role_name_fits s u fu t i x says (omega arith))
@@ -148,12 +152,12 @@ module _ (s : Text) (w : List ℕ) (p : ℕ) (t : Text) (o : Offered s w 0 p t) 
 
 -- ---- an allowed name
 module _ (s : Text) (w : List ℕ) (p : ℕ) (t : Text) (o : Offered s w 3 p t) (b : Bool) (good : b ≡ is_name t) where
-  pub allow_bad : not b ≡ true → Judged s w 3 p 6 w
+  pub allow_bad : not b ≡ true → Judged s w 3 p (Err C.BadName) w
   unfolding ledger_fault name_fits
   allow_bad y = refused s w 3 p t o bad_name (rw (← good, y))
 
   module _ (y : not b ≡ false) (a : Bool) (k : a ≡ is_star t) where
-    pub allow_star : (left : List ℕ) → a ≡ true → left ≡ with_record (p * 8 + 3) w → Judged s w 3 p 0 left
+    pub allow_star : (left : List ℕ) → a ≡ true → left ≡ with_record (p * 8 + 3) w → Judged s w 3 p (Ok tt) left
     unfolding ledger_fault name_fits pattern_fits is_full kept names_role
     allow_star left h z =
         rw z (taken s w 3 p t o w (ledger_at s w) o.fits refl (rw (← good, y, ← k, h)) (rw (← k, h)))
@@ -164,10 +168,10 @@ module _ (s : Text) (w : List ℕ) (p : ℕ) (t : Text) (o : Offered s w 3 p t) 
       allow_fault x l =
           rw (← good, y, ← k, h, new_by (ledger_at s w).roles t i 32 e (let j = W.roles_many s w o.fits in let f = o.fits in omega arith), l)
 
-      pub allow_past : most ≤ i → Judged s w 3 p 8 w
+      pub allow_past : most ≤ i → Judged s w 3 p (Err C.PastMost) w
       allow_past l = refused s w 3 p t o past_most (allow_fault true (le-leb 32 i (omega arith)))
 
-      pub allow_kept : (x : ℕ) (u left : List ℕ) → i < most → x ≡ name_number p t → u ≡ with_name 3600 3701 i x w → left ≡ with_record (p * 8 + 3) u → Judged s w 3 p 0 left
+      pub allow_kept : (x : ℕ) (u left : List ℕ) → i < most → x ≡ name_number p t → u ≡ with_name 3600 3701 i x w → left ≡ with_record (p * 8 + 3) u → Judged s w 3 p (Ok tt) left
       unfolding kept ledger_at names_role known field_by
       allow_kept x u left l g v z =
           rw (z, v) (taken s w 3 p t o (with_name 3600 3701 i x w) _ (W.role_name_fits s w o.fits t i x says (omega arith))
@@ -180,7 +184,7 @@ module _ (s : Text) (w : List ℕ) (p : ℕ) (t : Text) (o : Offered s w 3 p t) 
 
 -- ---- a pattern
 module _ (s : Text) (w : List ℕ) (p : ℕ) (t : Text) (o : Offered s w 5 p t) (b : Bool) (good : b ≡ is_pattern t) where
-  pub pattern_bad : not b ≡ true → Judged s w 5 p 7 w
+  pub pattern_bad : not b ≡ true → Judged s w 5 p (Err C.BadPattern) w
   unfolding ledger_fault name_fits pattern_fits
   pattern_bad y = refused s w 5 p t o bad_pattern (rw (← good, y))
 
@@ -189,10 +193,10 @@ module _ (s : Text) (w : List ℕ) (p : ℕ) (t : Text) (o : Offered s w 5 p t) 
     unfolding ledger_fault name_fits pattern_fits is_full ledger_at
     pattern_fault x l = rw (← good, y, ← e, l)
 
-    pub pattern_past : most ≤ n → Judged s w 5 p 8 w
+    pub pattern_past : most ≤ n → Judged s w 5 p (Err C.PastMost) w
     pattern_past l = refused s w 5 p t o past_most (pattern_fault true (le-leb 128 n (omega arith)))
 
-    pub pattern_kept : (u left : List ℕ) → n < most → u ≡ with_one 3706 w → left ≡ with_record (p * 8 + 5) u → Judged s w 5 p 0 left
+    pub pattern_kept : (u left : List ℕ) → n < most → u ≡ with_one 3706 w → left ≡ with_record (p * 8 + 5) u → Judged s w 5 p (Ok tt) left
     unfolding kept names_role
     pattern_kept u left l v z =
         rw (z, v) (taken s w 5 p t o (with_one 3706 w) _ (W.pattern_fits_lem s w o.fits (omega arith)) (W.pattern_counted s w o.fits (omega arith))
@@ -208,10 +212,10 @@ module _ (s : Text) (w : List ℕ) (p : ℕ) (f : Fits w) (file : length s ≤ 6
   unfolding ledger_fault name_fits pattern_fits is_full ledger_at
   collection_fault x l = rw (← e, l)
 
-  pub collection_past : most ≤ n → Judged s w 4 p 8 w
+  pub collection_past : most ≤ n → Judged s w 4 p (Err C.PastMost) w
   collection_past l = refused s w 4 p [] collection_offered past_most (collection_fault true (le-leb 128 n (omega arith)))
 
-  pub collection_kept : (u left : List ℕ) → n < most → u ≡ with_one 3705 w → left ≡ with_record (p * 8 + 4) u → Judged s w 4 p 0 left
+  pub collection_kept : (u left : List ℕ) → n < most → u ≡ with_one 3705 w → left ≡ with_record (p * 8 + 4) u → Judged s w 4 p (Ok tt) left
   unfolding kept names_role
   collection_kept u left l v z =
       rw (z, v) (taken s w 4 p [] collection_offered (with_one 3705 w) _ (W.collection_fits s w f (omega arith)) (W.collection_counted s w f (omega arith))
@@ -242,10 +246,10 @@ module _ (s : Text) (w : List ℕ) (k p : ℕ) (f : Fits w) (from : 1 ≤ k) (to
   unfolding ledger_fault name_fits pattern_fits is_full ledger_at
   constraint_fault x l = rw (constraint_kind k from to, constraint_good s k p from to, ← e, l)
 
-  pub constraint_past : most ≤ n → Judged s w k p 8 w
+  pub constraint_past : most ≤ n → Judged s w k p (Err C.PastMost) w
   constraint_past l = refused s w k p (field_by s k p) constraint_offered past_most (constraint_fault true (le-leb 64 n (omega arith)))
 
-  pub constraint_kept : (left : List ℕ) → n < most → left ≡ with_record (p * 8 + k) (with_one 3704 (with_last w)) → Judged s w k p 0 left
+  pub constraint_kept : (left : List ℕ) → n < most → left ≡ with_record (p * 8 + k) (with_one 3704 (with_last w)) → Judged s w k p (Ok tt) left
   unfolding kept names_role
   constraint_kept left l z =
       rw z (taken s w k p (field_by s k p) constraint_offered (with_one 3704 (with_last w)) _ (W.constraint_fits s (with_last w) (W.last_fits s w f) few)
@@ -286,7 +290,7 @@ module _ (s : Text) (w : List ℕ) (k p : ℕ) (t : Text) (o : Offered s w k p t
   either : (kind_by k ≡ Method) ⊎ (kind_by k ≡ Omit)
   either = method_kind k from o.kind
 
-  pub method_bad : not b ≡ true → Judged s w k p 6 w
+  pub method_bad : not b ≡ true → Judged s w k p (Err C.BadName) w
   method_bad y = refused s w k p t o bad_name (line_bad (ledger_at s w) (kind_by k) t either (sym good ∙ not-true b y))
 
   module _ (y : not b ≡ false) (mostLines n : ℕ) (m : mostLines ≡ 512) (e : n ≡ get_or w 3707 0) where
@@ -295,7 +299,7 @@ module _ (s : Text) (w : List ℕ) (k p : ℕ) (t : Text) (o : Offered s w k p t
     unfolding ledger_at
     method_fault x h = line_fault (ledger_at s w) (kind_by k) t either (sym good ∙ not-false b y) x (rw (← e) h)
 
-    pub line_past : mostLines ≤ n → Judged s w k p 8 w
+    pub line_past : mostLines ≤ n → Judged s w k p (Err C.PastMost) w
     line_past l = refused s w k p t o past_most (method_fault true (rw (le-leb 512 n (omega arith))))
 
     module _ (l : n < mostLines) (i most : ℕ) (q : i ≡ index_of t (names_at s 3632 (get_or w 3702 0) w)) (g : most ≡ 31) where
@@ -304,11 +308,11 @@ module _ (s : Text) (w : List ℕ) (k p : ℕ) (t : Text) (o : Offered s w k p t
       methods_by =
           rw (lt-leb 512 n (omega arith), new_by (ledger_at s w).methods t i 31 q (let j = W.methods_many s w o.fits in let f = o.fits in omega arith))
 
-      pub method_past : most ≤ i → Judged s w k p 8 w
+      pub method_past : most ≤ i → Judged s w k p (Err C.PastMost) w
       method_past h = refused s w k p t o past_most (method_fault true (methods_by ∙ le-leb 31 i (omega arith)))
 
       pub method_kept : (x : ℕ) (left : List ℕ) → i < most → x ≡ name_number p t
-          → left ≡ with_record (p * 8 + k) (with_name 3632 3702 i x (with_one 3707 w)) → Judged s w k p 0 left
+          → left ≡ with_record (p * 8 + k) (with_name 3632 3702 i x (with_one 3707 w)) → Judged s w k p (Ok tt) left
       unfolding ledger_at
       method_kept x left h a z =
           rw z (taken s w k p t o (with_name 3632 3702 i x u) _ (W.method_name_fits s u fu t i x says (omega arith))
@@ -334,7 +338,7 @@ module _ (s : Text) (w : List ℕ) (k p : ℕ) (t : Text) (o : Offered s w k p t
   pub offered_as : (j : ℕ) → k ≡ j → Offered s w j p t
   offered_as j e = subst (λ (i : ℕ). Offered s w i p t) e o
 
-  pub judged_as : (j n : ℕ) (left : List ℕ) → k ≡ j → Judged s w j p n left → Judged s w k p n left
+  pub judged_as : (j : ℕ) (n : Answer) (left : List ℕ) → k ≡ j → Judged s w j p n left → Judged s w k p n left
   judged_as j n left e h = subst (λ (i : ℕ). Judged s w i p n left) (sym e) h
 
   -- what is left is a pattern
@@ -345,7 +349,7 @@ module _ (s : Text) (w : List ℕ) (k p : ℕ) (t : Text) (o : Offered s w k p t
     pub offered_pattern : Offered s w 5 p t
     offered_pattern = offered_as 5 only_pattern
 
-    pub judged_pattern : (n : ℕ) (left : List ℕ) → Judged s w 5 p n left → Judged s w k p n left
+    pub judged_pattern : (n : Answer) (left : List ℕ) → Judged s w 5 p n left → Judged s w k p n left
     judged_pattern n left j = judged_as 5 n left only_pattern j
 
 -- ---- a text of over 255 bytes
@@ -406,8 +410,8 @@ long_breaks L s (suc (suc (suc (suc (suc (suc (suc n))))))) p h =
     let k : ℕ = suc (suc (suc (suc (suc (suc (suc n)))))) in
     long_omit L k (field_by s k p) (omega arith) h
 
-pub long_pattern : (k : ℕ) → k ≡ 5 → 7 ≡ fault_number (long_fault k)
+pub long_pattern : (k : ℕ) → k ≡ 5 → C.BadPattern ≡ cause_of (long_fault k)
 long_pattern k e = rw e
 
-pub long_name : (k : ℕ) → (k ≡ 5 → ⊥) → 6 ≡ fault_number (long_fault k)
+pub long_name : (k : ℕ) → (k ≡ 5 → ⊥) → C.BadName ≡ cause_of (long_fault k)
 long_name k e = rw (ne_eqb k 5 e)

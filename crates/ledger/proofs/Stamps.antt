@@ -12,6 +12,7 @@ use lib.Seq.{take-set-le, drop-set-lt, drop-set-add, take-suc-set, get_or-take, 
 use lib.Arith.{digits_div, digits_mod}
 use lib.Dec.{eqb}
 use borrow.Author.Tests.{eq-eqb, eqb-true, eqb-false}
+use Rattle.std.proofs.Common.{Fits, w8}
 use Rattle.text.specs.Texts.{Text, same, index_of}
 use Rattle.text.proofs.Truths.{not_so}
 use Rattle.text.proofs.Spans.{same_equal, same_lengths}
@@ -25,9 +26,9 @@ stamp_none [] h = refl
 stamp_none (x ∷ xs) h = absurd (omega arith)
 
 -- another text's
-pub stamp_last : (t : Text) (x : ℕ) → x ≡ get_or t (length t - 1) 0 → x % 256 * 64 + length t % 64 ≡ stamp_of t
+pub stamp_last : (t : Text) (x : ℕ) → x ≡ get_or t (length t - 1) 0 → ((i : ℕ) → Fits w8 (get_or t i 0)) → x * 64 + length t % 64 ≡ stamp_of t
 unfolding stamp_of
-stamp_last t x e = rw e
+stamp_last t x e fits = let b : Fits w8 (get_or t (length t - 1) 0) = fits (length t - 1) in let l : get_or t (length t - 1) 0 < 256 = omega arith in rw e (omega arith)
 
 -- 14 digits
 stamp_small : (t : Text) → stamp_of t < 16384

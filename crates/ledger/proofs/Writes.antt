@@ -1,6 +1,7 @@
 -- What a write in the table does to the ledger that it holds. The counts stand in the same table, so a ledger is first taken by counts and table.
 use mathlib.Core.Path.{◌≡◌, refl, sym, ap, subst, ◌∙◌}
 use mathlib.Core.Bool.{Bool, true, false, cond}
+use mathlib.Core.Logic.{◌⊎◌, inl, inr}
 use mathlib.Core.List.{List, [], ◌∷◌, ◌++◌, map, map-append}
 use Prim.Native.Nat.{ℕ, zero, suc, ◌+◌, ◌-◌, ◌≤◌, ◌<◌}
 use native.Mathlib.Numerals.{add-one}
@@ -491,21 +492,25 @@ unfolding records_at
 records_set s n w i x = ap (λ (l : List ℕ). map (record_at s) l) (take_set (least n most_kept) w i x) ∙ map_set (record_at s) (take (least n most_kept) w) i x
 
 module _ (w : List ℕ) (f : Fits w) (n : ℕ) (e : n ≡ get_or w 3708 0) where
-  pub guard_none : n ≡ 0 → Guarded w w
+  guard_none : n ≡ 0 → Guarded w w
   unfolding ledger_at marked
   guard_none z = record { ledger = λ s. rw (← e, z); fits = f }
 
   -- it has no room
-  pub guard_past : 3600 < n → Guarded w w
+  guard_past : 3600 < n → Guarded w w
   unfolding ledger_at marked records_at
   guard_past h = record { ledger = λ s. rw (← e, ne_eqb n 0 (λ z. omega arith), set_out (records_at s (get_or w 3700 0) w) (n - 1) (record_at s 2) (long s)); fits = f }
     where
       long : (s : Text) → length (records_at s (get_or w 3700 0) w) ≤ n - 1
       long s = let k = fewest (get_or w 3700 0) in rw (length-map (take (least (get_or w 3700 0) most_kept) w) (record_at s)) (simp length-take (omega arith))
 
-  pub guard_put : (n ≡ 0 → ⊥) → n ≤ 3600 → Guarded w (set w (n - 1) 2)
+  pub guard_stays : (n ≡ 0) ⊎ ((n ≡ 0 → ⊥) × (3600 < n)) → Guarded w w
+  guard_stays (inl z) = guard_none z
+  guard_stays (inr (z, h)) = guard_past h
+
+  pub guard_put : (x : ℕ) → x ≡ 2 → (n ≡ 0 → ⊥) → n ≤ 3600 → Guarded w (set w (n - 1) x)
   unfolding ledger_at marked field_by
-  guard_put z h = record { ledger = held; fits = below_fits w f (n - 1) 2 (omega arith) }
+  guard_put x auth z h = rw auth (record { ledger = held; fits = below_fits w f (n - 1) 2 (omega arith) })
     where
       held : (s : Text) → ledger_at s (set w (n - 1) 2) ≡ marked (ledger_at s w)
       held s =

@@ -1,5 +1,5 @@
 -- A ledger as numbers in the work table: a record is eight times the place of its text in the file and the number of its kind.
-use Rattle.std.specs.Prelude.{ℕ, ◌+◌, ◌-◌, ◌*◌, ◌/◌, ◌%◌, ◌≤◌, ◌<◌, ◌≡◌, cond, List, [], map, length, take, drop, get_or, set, eqb, ltb}
+use Rattle.std.specs.Prelude.{Result, Ok, Err, ℕ, ◌+◌, ◌-◌, ◌*◌, ◌/◌, ◌%◌, ◌≤◌, ◌<◌, ◌≡◌, cond, List, [], map, length, take, drop, get_or, set, eqb, ltb}
 use Rattle.std.proofs.Math.Option.{Option, none, some}
 use Rattle.text.specs.Texts.{Text, bytes}
 use Rattle.documents.specs.Parts.{Fault, bad_name, bad_pattern, got, fault, letters, trimmed}
@@ -7,7 +7,11 @@ use Rattle.listings.specs.Records.{Record}
 use Rattle.listings.specs.declared.records.Kind.{Kind}
 use Rattle.listings.specs.declared.records.Kind.TheVariants.{Role, Constraint, Allow, Collection, Pattern, Method, Omit}
 use Rattle.portals.specs.Records.{record_of}
-use Rattle.portals.specs.Outcomes.{most_xml, fault_number}
+use Rattle.portals.specs.Outcomes.{most_xml}
+use Rattle.markup.specs.declared.answers.Cause.{Cause}
+use Rattle.markup.specs.Places.{cause_of}
+use Rattle.ledger.specs.declared.items.Item.{Item}
+use Rattle.ledger.specs.declared.items.Item.TheVariants as Items
 use Rattle.ledger.specs.Ledgers.{Ledger, most_kept, least, kept, marked, ledger_fault}
 
 -- ---- where what stands
@@ -52,6 +56,17 @@ last_at = 3708
 unfoldable pub text_at : Text → ℕ → Text
 unfolding letters trimmed
 text_at s p = elim (letters 0 (drop p s)) [ got t r ↦ trimmed t | fault e n ↦ [] ]
+
+-- the number of a record's kind in the table
+abbrev pub number_of : Item → ℕ
+number_of Items.Role = 0
+number_of Items.Open = 1
+number_of Items.Auth = 2
+number_of Items.Allow = 3
+number_of Items.Collection = 4
+number_of Items.Pattern = 5
+number_of Items.Method = 6
+number_of Items.Omit = 7
 
 -- 0 role, 1 open constraint, 2 constraint with an authorization constraint, 3 allow, 4 collection, 5 pattern, 6 method, 7 omit
 abbrev pub kind_by : ℕ → Kind
@@ -149,12 +164,12 @@ abbrev pub with_last : List ℕ → List ℕ
 with_last w = set w last_at (get_or w size_at 0 + 1)
 
 -- ---- what adding a record comes to
--- the number of the rule that it breaks, or 0 and the ledger with it
-abbrev pub AddedBy : Option Fault → Ledger → Record → Text → ℕ → List ℕ → Type 0
-AddedBy none L r s n w = (n ≡ 0) × (ledger_at s w ≡ kept L r)
-AddedBy (some f) L r s n w = n ≡ fault_number f
+-- the rule that it breaks, or the ledger with it
+abbrev pub AddedBy : Option Fault → Ledger → Record → Text → Result (Unit {0}) Cause → List ℕ → Type 0
+AddedBy none L r s n w = (n ≡ Ok tt) × (ledger_at s w ≡ kept L r)
+AddedBy (some f) L r s n w = n ≡ Err (cause_of f)
 
-pub record Added (s : Text) (L : Ledger) (r : Record) (n : ℕ) (w : List ℕ) : Type 0 where
+pub record Added (s : Text) (L : Ledger) (r : Record) (n : Result (Unit {0}) Cause) (w : List ℕ) : Type 0 where
   pub answer : AddedBy (ledger_fault L r) L r s n w
   pub fits : Fits w
 
@@ -167,7 +182,7 @@ pub record Offered (s : Text) (w : List ℕ) (k p : ℕ) (t : Text) : Type 0 whe
   pub fits : Fits w
 
 -- it is added to what the table holds
-abbrev pub Judged : Text → List ℕ → ℕ → ℕ → ℕ → List ℕ → Type 0
+abbrev pub Judged : Text → List ℕ → ℕ → ℕ → Result (Unit {0}) Cause → List ℕ → Type 0
 Judged s w k p n w' = Added s (ledger_at s w) (record_by s k p) n w'
 
 -- its field is a text of the file

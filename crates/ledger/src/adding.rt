@@ -1,12 +1,12 @@
-// A record judged by the rules and, where it breaks none, kept. Each answers 0 or the number of the rule that is broken.
+// A record judged by the rules and, where it breaks none, kept. Each answers the rule that is broken, if one is.
 ghost use Rattle.std.specs.Prelude.{◌≡◌, ◌+◌, ◌*◌, ◌≤◌, ◌<◌, length, get_or};
-ghost use Rattle.text.specs.Texts.{all};
-ghost use Rattle.text.specs.Bytes.{is_text};
-ghost use Rattle.portals.specs.Outcomes.{fault_number};
-ghost use Rattle.ledger.specs.Places.{Fits, Offered, Judged, HasText, Guarded, long_fault, size_at, with_one, with_name, with_record, with_last};
+ghost use Rattle.markup.specs.Places.{cause_of};
+ghost use Rattle.ledger.specs.Places.{Fits, number_of, Offered, Judged, Guarded, long_fault, size_at, with_one, with_name, with_record, with_last};
 
+use crate::items::Item;
 use crate::{keeping, searching};
 use limits::{Counted, most};
+use markup::answers::Cause;
 use text::texts;
 
 // What is written of a role: its name x, whose place is d among the declared ones and i among all.
@@ -16,180 +16,155 @@ pub fn keep_role(w: &mut [u32], place: usize, d: usize, i: usize, x: u32)
 {
     keeping::put_name(w, keeping::DECLARED, keeping::DECLARED_COUNT, d, x);
     keeping::put_name(w, keeping::ROLES, keeping::ROLE_COUNT, i, x);
-    keeping::put_record(w, 0, place);
+    keeping::put_record(w, Item::Role, place);
 }
 
 // A declared role, of name t.
-pub fn role(s: &[u8], w: &mut [u32], place: usize, t: &[u8], clean: bool) -> u8
-    requires { Offered s.now w.old 0 place t.now × (clean ≡ all is_text t.now) }
+pub fn role(s: &[u8], w: &mut [u32], place: usize, t: &[u8]) -> Result<(), Cause>
+    requires { Offered s.now w.old 0 place t.now }
     ensures { Judged s.now w.old 0 place result w.new }
 {
-    if !names::is_role_name(t, clean) {
-        return 6;
+    if !names::is_role_name(t, texts::all_text(t)) {
+        return Err(Cause::BadName);
     }
     let d = searching::find(s, w, keeping::DECLARED, keeping::DECLARED_COUNT, t);
     if d < keeping::count(w, keeping::DECLARED_COUNT) {
-        return 9;
+        return Err(Cause::RoleTwice);
     }
     let i = searching::find(s, w, keeping::ROLES, keeping::ROLE_COUNT, t);
     let most = most(Counted::Roles);
-    if most <= d {
-        return 8;
-    }
-    if most <= i {
-        return 8;
+    if most <= d || most <= i {
+        return Err(Cause::PastMost);
     }
     keep_role(w, place, d, i, keeping::name_number(place, t));
-    0
+    Ok(())
 }
 
 // An allowed name.
-pub fn allow(s: &[u8], w: &mut [u32], place: usize, t: &[u8], clean: bool) -> u8
-    requires { Offered s.now w.old 3 place t.now × (clean ≡ all is_text t.now) }
+pub fn allow(s: &[u8], w: &mut [u32], place: usize, t: &[u8]) -> Result<(), Cause>
+    requires { Offered s.now w.old 3 place t.now }
     ensures { Judged s.now w.old 3 place result w.new }
 {
-    if !names::is_name(t, clean) {
-        return 6;
+    if !names::is_name(t, texts::all_text(t)) {
+        return Err(Cause::BadName);
     }
     if names::is_star(t) {
-        keeping::put_record(w, 3, place);
-        return 0;
+        keeping::put_record(w, Item::Allow, place);
+        return Ok(());
     }
     let i = searching::find(s, w, keeping::ROLES, keeping::ROLE_COUNT, t);
     if most(Counted::Roles) <= i {
-        return 8;
+        return Err(Cause::PastMost);
     }
     let x = keeping::name_number(place, t);
     keeping::put_name(w, keeping::ROLES, keeping::ROLE_COUNT, i, x);
-    keeping::put_record(w, 3, place);
-    0
+    keeping::put_record(w, Item::Allow, place);
+    Ok(())
 }
 
 // A pattern.
-pub fn pattern(s: &[u8], w: &mut [u32], place: usize, t: &[u8], clean: bool) -> u8
-    requires { Offered s.now w.old 5 place t.now × (clean ≡ all is_text t.now) }
+pub fn pattern(s: &[u8], w: &mut [u32], place: usize, t: &[u8]) -> Result<(), Cause>
+    requires { Offered s.now w.old 5 place t.now }
     ensures { Judged s.now w.old 5 place result w.new }
 {
-    if !names::is_pattern(t, clean) {
-        return 7;
+    if !names::is_pattern(t, texts::all_text(t)) {
+        return Err(Cause::BadPattern);
     }
     if most(Counted::Patterns) <= keeping::count(w, keeping::PATTERNS) {
-        return 8;
+        return Err(Cause::PastMost);
     }
     keeping::put_one(w, keeping::PATTERNS);
-    keeping::put_record(w, 5, place);
-    0
+    keeping::put_record(w, Item::Pattern, place);
+    Ok(())
 }
 
 // What is written of a method or an omission: its name x, whose place among the methods is i.
-pub fn keep_method(w: &mut [u32], kind: usize, place: usize, i: usize, x: u32)
-    requires { Fits w.old × ((kind < 8) × ((place ≤ 65536) × (i < 31))) }
-    ensures { w.new ≡ with_record (place * 8 + kind) (with_name 3632 3702 i x (with_one 3707 w.old)) }
+pub fn keep_method(w: &mut [u32], item: Item, place: usize, i: usize, x: u32)
+    requires { Fits w.old × ((place ≤ 65536) × (i < 31)) }
+    ensures { w.new ≡ with_record (place * 8 + number_of item) (with_name 3632 3702 i x (with_one 3707 w.old)) }
 {
     keeping::put_one(w, keeping::LINES);
     keeping::put_name(w, keeping::METHODS, keeping::METHOD_COUNT, i, x);
-    keeping::put_record(w, kind, place);
+    keeping::put_record(w, item, place);
 }
 
 // A method, or an omission.
-pub fn method(s: &[u8], w: &mut [u32], kind: usize, place: usize, t: &[u8]) -> u8
-    requires { Offered s.now w.old kind place t.now × (6 ≤ kind) }
-    ensures { Judged s.now w.old kind place result w.new }
+pub fn method(s: &[u8], w: &mut [u32], item: Item, place: usize, t: &[u8]) -> Result<(), Cause>
+    requires { Offered s.now w.old (number_of item) place t.now × (6 ≤ number_of item) }
+    ensures { Judged s.now w.old (number_of item) place result w.new }
 {
     if !names::is_method_name(t) {
-        return 6;
+        return Err(Cause::BadName);
     }
     if most(Counted::MethodLines) <= keeping::count(w, keeping::LINES) {
-        return 8;
+        return Err(Cause::PastMost);
     }
     let i = searching::find(s, w, keeping::METHODS, keeping::METHOD_COUNT, t);
     if most(Counted::Methods) <= i {
-        return 8;
+        return Err(Cause::PastMost);
     }
-    keep_method(w, kind, place, i, keeping::name_number(place, t));
-    0
+    keep_method(w, item, place, i, keeping::name_number(place, t));
+    Ok(())
 }
 
 // A collection begins.
-pub fn collection(s: &[u8], w: &mut [u32], place: usize) -> u8
+pub fn collection(s: &[u8], w: &mut [u32], place: usize) -> Result<(), Cause>
     requires { Fits w.old × ((length s.now ≤ 65536) × (place ≤ 65536)) }
     ensures { Judged s.now w.old 4 place result w.new }
 {
     if most(Counted::Collections) <= keeping::count(w, keeping::COLLECTIONS) {
-        return 8;
+        return Err(Cause::PastMost);
     }
     keeping::put_one(w, keeping::COLLECTIONS);
-    keeping::put_record(w, 4, place);
-    0
+    keeping::put_record(w, Item::Collection, place);
+    Ok(())
 }
 
 // What is written of a constraint: it is the last one.
-pub fn keep_constraint(w: &mut [u32], kind: usize, place: usize)
-    requires { Fits w.old × ((kind < 8) × (place ≤ 65536)) }
-    ensures { w.new ≡ with_record (place * 8 + kind) (with_one 3704 (with_last w.old)) }
+pub fn keep_constraint(w: &mut [u32], item: Item, place: usize)
+    requires { Fits w.old × (place ≤ 65536) }
+    ensures { w.new ≡ with_record (place * 8 + number_of item) (with_one 3704 (with_last w.old)) }
 {
     keeping::put_last(w);
     keeping::put_one(w, keeping::CONSTRAINTS);
-    keeping::put_record(w, kind, place);
+    keeping::put_record(w, item, place);
 }
 
 // A constraint begins.
-pub fn constraint(s: &[u8], w: &mut [u32], kind: usize, place: usize) -> u8
-    requires { Fits w.old × ((1 ≤ kind) × ((kind ≤ 2) × ((length s.now ≤ 65536) × (place ≤ 65536)))) }
-    ensures { Judged s.now w.old kind place result w.new }
+pub fn constraint(s: &[u8], w: &mut [u32], item: Item, place: usize) -> Result<(), Cause>
+    requires { Fits w.old × ((1 ≤ number_of item) × ((number_of item ≤ 2) × ((length s.now ≤ 65536) × (place ≤ 65536)))) }
+    ensures { Judged s.now w.old (number_of item) place result w.new }
 {
     if most(Counted::Constraints) <= keeping::count(w, keeping::CONSTRAINTS) {
-        return 8;
+        return Err(Cause::PastMost);
     }
-    keep_constraint(w, kind, place);
-    0
+    keep_constraint(w, item, place);
+    Ok(())
 }
 
-// A record of which the text matters.
-pub fn named(s: &[u8], w: &mut [u32], kind: usize, place: usize, t: &[u8]) -> u8
-    requires { Offered s.now w.old kind place t.now × HasText kind }
-    ensures { Judged s.now w.old kind place result w.new }
+// The record of that kind whose text t stands at that place of the file.
+pub fn add(s: &[u8], w: &mut [u32], item: Item, place: usize, t: &[u8]) -> Result<(), Cause>
+    requires { Offered s.now w.old (number_of item) place t.now }
+    ensures { Judged s.now w.old (number_of item) place result w.new }
 {
-    if 6 <= kind {
-        return method(s, w, kind, place, t);
+    match item {
+        Item::Role => role(s, w, place, t),
+        Item::Open | Item::Auth => constraint(s, w, item, place),
+        Item::Allow => allow(s, w, place, t),
+        Item::Collection => collection(s, w, place),
+        Item::Pattern => pattern(s, w, place, t),
+        Item::Method | Item::Omit => method(s, w, item, place, t),
     }
-    let clean = texts::all_text(t);
-    if kind == 0 {
-        return role(s, w, place, t, clean);
-    }
-    if kind == 3 {
-        return allow(s, w, place, t, clean);
-    }
-    pattern(s, w, place, t, clean)
 }
 
-// The record of that kind whose text t stands at that place of the file: 0 role, 1 open constraint, 2 constraint with an authorization constraint,
-// 3 allow, 4 collection, 5 pattern, 6 method, 7 omit.
-pub fn add(s: &[u8], w: &mut [u32], kind: u8, place: usize, t: &[u8]) -> u8
-    requires { Offered s.now w.old kind place t.now }
-    ensures { Judged s.now w.old kind place result w.new }
+// The rule that a text of over 255 bytes breaks.
+pub fn too_long_fault(item: Item) -> Cause
+    ensures { result ≡ cause_of (long_fault (number_of item)) }
 {
-    let k = kind as usize;
-    if k == 4 {
-        return collection(s, w, place);
+    match item {
+        Item::Pattern => Cause::BadPattern,
+        _ => Cause::BadName,
     }
-    if k == 1 {
-        return constraint(s, w, k, place);
-    }
-    if k == 2 {
-        return constraint(s, w, k, place);
-    }
-    named(s, w, k, place, t)
-}
-
-// The number of the rule that a text of over 255 bytes breaks.
-pub fn too_long_fault(kind: u8) -> u8
-    ensures { result ≡ fault_number (long_fault kind) }
-{
-    if kind == 5 {
-        return 7;
-    }
-    6
 }
 
 // The last constraint has an authorization constraint.
@@ -198,13 +173,10 @@ pub fn guard(w: &mut [u32])
     ensures { Guarded w.old w.new }
 {
     let last = keeping::count(w, keeping::LAST);
-    if last == 0 {
+    if last == 0 || keeping::MOST < last {
         return;
     }
-    if keeping::MOST < last {
-        return;
-    }
-    w[last - 1] = 2;
+    w[last - 1] = u32::from(Item::Auth);
 }
 
 // How many records there are, counted up to one more than have room.

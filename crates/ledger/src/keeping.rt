@@ -1,7 +1,8 @@
 // What is written of a record: its number, names, and counts.
 ghost use Rattle.std.specs.Prelude.{◌≡◌, ◌+◌, ◌*◌, ◌≤◌, ◌<◌, length, get_or};
-ghost use Rattle.ledger.specs.Places.{Fits, name_number, with_one, with_name, with_record, with_last};
+ghost use Rattle.ledger.specs.Places.{Fits, number_of, name_number, with_one, with_name, with_record, with_last};
 
+use crate::items::Item;
 use crate::searching;
 
 // Where each list begins, and where each number stands.
@@ -37,7 +38,7 @@ pub fn count(w: &[u32], c: usize) -> usize
     requires { c < length w.now }
     ensures { result ≡ get_or w.now c 0 }
 {
-    searching::wide(w[c])
+    w[c] as usize
 }
 
 // The number of the name t, which stands at that place of the file.
@@ -53,7 +54,7 @@ pub fn put_one(w: &mut [u32], c: usize)
     requires { (c < length w.old) × (get_or w.old c 0 ≤ 3602) }
     ensures { w.new ≡ with_one c w.old }
 {
-    w[c] = w[c] + 1;
+    w[c] += 1;
 }
 
 // The name x, whose place among those from `base` on, which are counted at c, is i: put behind them, where i is their number.
@@ -76,13 +77,13 @@ pub fn put_last(w: &mut [u32])
 }
 
 // One more record: its number where there is room, and the count up to one more than have room.
-pub fn put_record(w: &mut [u32], kind: usize, place: usize)
-    requires { (4096 ≤ length w.old) × ((kind < 8) × (place ≤ 65536)) }
-    ensures { w.new ≡ with_record (place * 8 + kind) w.old }
+pub fn put_record(w: &mut [u32], item: Item, place: usize)
+    requires { (4096 ≤ length w.old) × (place ≤ 65536) }
+    ensures { w.new ≡ with_record (place * 8 + number_of item) w.old }
 {
     let n = count(w, SIZE);
     if n < MOST {
-        w[n] = (place * 8 + kind) as u32;
+        w[n] = place as u32 * 8 + u32::from(item);
         w[SIZE] = n as u32 + 1;
         return;
     }

@@ -6,30 +6,15 @@ ghost use Rattle.ledger.specs.Places.{text_at, stamp_of, name_at, names_at, Soug
 use markup::gathering;
 use text::texts;
 
-// The same number, as an index.
-pub fn wide(x: u32) -> usize
-    ensures { result ≡ x }
-{
-    x as usize
-}
-
-// The same number.
-pub fn of_byte(b: u8) -> u32
-    ensures { result ≡ b }
-{
-    b as u32
-}
-
 // The last byte of t and its length, as a number's last 14 digits hold them.
 pub fn stamp(t: &[u8]) -> u32
     ensures is { result ≡ stamp_of t.now }
     ensures small { result < 16384 }
 {
-    if t.len() == 0 {
-        return 0;
+    match t {
+        [.., last] => u32::from(*last) * 64 + (t.len() % 64) as u32,
+        [] => 0,
     }
-    let last = of_byte(t[t.len() - 1]);
-    last % 256 * 64 + (t.len() % 64) as u32
 }
 
 // Whether the text at that place of the file is t.
@@ -57,7 +42,7 @@ pub fn is_named(s: &[u8], x: u32, key: u32, t: &[u8]) -> bool
     if x % 16384 != key {
         return false;
     }
-    is_text_at(s, wide(x / 16384), t)
+    is_text_at(s, (x / 16384) as usize, t)
 }
 
 // The place of t among the n names from `base` on, or n where it is none of them.
@@ -66,14 +51,12 @@ pub fn index(s: &[u8], w: &[u32], base: usize, n: usize, t: &[u8]) -> usize
     ensures { result ≡ index_of t.now (names_at s.now base n w.now) }
 {
     let key = stamp(t);
-    let mut k = 0;
-    while k < n {
+    for k in 0..n {
         if is_named(s, w[base + k], key, t) {
             return k;
         }
-        k += 1;
     }
-    k
+    n
 }
 
 // The same among those that are counted at place c.
@@ -81,5 +64,5 @@ pub fn find(s: &[u8], w: &[u32], base: usize, c: usize, t: &[u8]) -> usize
     requires { (c < length w.now) × ((base + get_or w.now c 0 ≤ length w.now) × Sought s.now t.now) }
     ensures { result ≡ index_of t.now (names_at s.now base (get_or w.now c 0) w.now) }
 {
-    index(s, w, base, wide(w[c]), t)
+    index(s, w, base, w[c] as usize, t)
 }

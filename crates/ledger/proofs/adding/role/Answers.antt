@@ -1,6 +1,6 @@
 -- `adding::role` meets its contract: a law of Effects for each return.
 use borrow.Author.Rules.{rules}
-use Rattle.ledger.proofs.Effects.{role_name_sought, role_bad, role_twice_lem, role_past_declared, role_past, role_kept}
+use Rattle.ledger.proofs.Effects.{role_name_sought, role_bad, role_twice_lem, role_past, role_kept}
 use Rattle.ledger.proofs.adding.role.Goals as goal
 
 pub returns-then-not-is_role_name : goal.returns-then-not-is_role_name
@@ -16,10 +16,7 @@ pub find-i-requires : goal.find-i-requires
 find-i-requires c = search (rules, role_name_sought)
 
 pub returns-then-most-d : goal.returns-then-most-d
-returns-then-most-d c = search (rules, role_past_declared)
-
-pub returns-then-most-i : goal.returns-then-most-i
-returns-then-most-i c = search (rules, role_past)
+returns-then-most-d c = search (rules, role_past)
 
 pub returns : goal.returns
 returns c = search (rules, role_kept)
