@@ -11,7 +11,11 @@ use Rattle.text.specs.Texts.{Text, same, part}
 use Rattle.text.proofs.Spans.{same_lengths}
 use Rattle.documents.specs.Chars.{next, after}
 use Rattle.documents.specs.Parts.{Got, got, fault, Reader, ◌>>=◌, ◌>>◌, return, whether, blamed, rounds, walk, letter_of, comment, goes_on, piece, letters, trim_end, trimmed}
-use Rattle.markup.specs.Places.{read_or}
+use Rattle.std.specs.Prelude.{Result, Ok, Err}
+use Rattle.markup.specs.declared.answers.Fault.{Fault as Blame}
+use Rattle.markup.specs.declared.gathering.Gathered.{Gathered}
+use Rattle.markup.specs.Places.{read_or, read_as, placed_as}
+use Rattle.markup.specs.Tallies.{gathered}
 use Rattle.ledger.specs.Places.{text_at, Sought}
 
 -- what was read, faults aside
@@ -102,6 +106,28 @@ text_read n s p = go (letters 0 (drop p s)) ∙ ap trimmed (letters_anywhere 0 n
     go (got t r) = refl
     go (fault e n) = refl
 
+-- what is gathered is as long
+pub gathered_size : (n : ℕ) (s : Text) (p : ℕ) (g : Gathered) → Ok g ≡ read_as gathered (letters n) s p → g.len ≡ length (text_at s p)
+unfolding read_as read_or
+gathered_size n s p g h = go (letters n (drop p s)) h ∙ ap length (sym (text_read n s p))
+  where
+    len_of : Result Gathered Blame → ℕ
+    len_of (Ok x) = x.len
+    len_of (Err x) = 0
+
+    go : (x : Got Text) → Ok g ≡ placed_as gathered (length s) x → g.len ≡ length (trimmed (elim x as (λ z. Text) [ got a r ↦ a | fault e k ↦ [] ]))
+    go (got a r) e = ap len_of e
+    go (fault d k) e = cc
+
+-- beside a fault there is none
+pub refused_none : (n : ℕ) (s : Text) (p : ℕ) (e : Blame) → Err e ≡ read_as gathered (letters n) s p → text_at s p ≡ []
+unfolding read_as read_or trimmed trim_end after
+refused_none n s p e h = text_read n s p ∙ go (letters n (drop p s)) h
+  where
+    go : (x : Got Text) → Err e ≡ placed_as gathered (length s) x → trimmed (elim x as (λ z. Text) [ got a r ↦ a | fault e k ↦ [] ]) ≡ []
+    go (got a r) z = cc
+    go (fault d k) z = refl
+
 -- before a tag stands none
 rounds_none : (f : ℕ) (u : Text) → goes_on u ≡ false → rounds goes_on (piece 0) f [] u ≡ got [] u
 unfolding rounds whether
@@ -122,14 +148,14 @@ module _ (s : Text) (p : ℕ) (t : Text) (h : Sought s t) where
   pub text_past : length s < p → false ≡ same (text_at s p) t
   text_past l = same_lengths (text_at s p) t (λ e. let z : length (text_at s p) ≡ 0 = ap length (text_none s p l) in let k = h.full in omega arith)
 
-  module _ (n : ℕ) (size : n ≡ length (trimmed (read_or [] (letters (length s - p)) s p))) where
-    pub text_longer : (n ≡ length t → ⊥) → false ≡ same (text_at s p) t
-    text_longer d = same_lengths (text_at s p) t (λ e. d (size ∙ ap length (sym (text_read (length s - p) s p)) ∙ e))
+  pub text_refused : (e : Blame) → Err e ≡ read_as gathered (letters (length s - p)) s p → false ≡ same (text_at s p) t
+  text_refused e x = same_lengths (text_at s p) t (λ z. let k : length (text_at s p) ≡ 0 = ap length (refused_none (length s - p) s p e x) in let j = h.full in omega arith)
 
-    pub text_gathered : (out : Text) (r : Bool) → (n ≤ length out → take n out ≡ trimmed (read_or [] (letters (length s - p)) s p)) → n ≡ length t → length out ≡ 256
-        → r ≡ same (part 0 n out) t → r ≡ same (text_at s p) t
-    text_gathered out r g e l q =
-        let z : n - 0 ≡ n = omega arith in
-        q
-        ∙ ap (λ (i : ℕ). same (take i out) t) z
-        ∙ ap (λ (u : Text). same u t) (g (let k = h.short in omega arith) ∙ sym (text_read (length s - p) s p))
+  module _ (g : Gathered) (e : Ok g ≡ read_as gathered (letters (length s - p)) s p) where
+    pub text_longer : (g.len ≡ length t → ⊥) → false ≡ same (text_at s p) t
+    text_longer d = same_lengths (text_at s p) t (λ z. d (gathered_size (length s - p) s p g e ∙ z))
+
+    pub text_gathered : (out : Text) (r : Bool) → (g.len ≤ length out → take g.len out ≡ trimmed (read_or [] (letters (length s - p)) s p)) → g.len ≡ length t → length out ≡ 256
+        → r ≡ same (take g.len out) t → r ≡ same (text_at s p) t
+    text_gathered out r f l k q =
+        q ∙ ap (λ (u : Text). same u t) (f (let j = h.short in omega arith) ∙ sym (text_read (length s - p) s p))

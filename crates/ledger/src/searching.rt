@@ -26,12 +26,10 @@ pub fn is_text_at(s: &[u8], at: usize, t: &[u8]) -> bool
         return false;
     }
     let mut found = [0u8; 256];
-    let g = gathering::gather(s, at, at, &mut found);
-    let n = g.len;
-    if n != t.len() {
+    let Ok(g) = gathering::gather(s, at, at, &mut found) else {
         return false;
-    }
-    texts::are_same(&found[0..n], t)
+    };
+    g.len == t.len() && texts::are_same(&found[..g.len], t)
 }
 
 // Whether x says the name t, whose stamp is `key`. With another stamp it does not, and the file is not looked at.
