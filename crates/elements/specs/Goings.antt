@@ -1,51 +1,68 @@
 -- What a reader of elements comes to in code: a fault and its place, or the place behind what was read, the phase there and the records in the work table.
-use Rattle.std.specs.Prelude.{ℕ, zero, suc, ◌+◌, ◌-◌, ◌≤◌, ◌<◌, ◌≡◌, cond, List, length, drop, eqb}
+use Rattle.std.specs.Prelude.{Result, Ok, Err, ℕ, zero, suc, ◌+◌, ◌-◌, ◌≤◌, ◌≡◌, List, length, drop}
 use Rattle.text.specs.Texts.{Text, part}
 use Rattle.documents.specs.Parts.{Got, got, fault, Reader, ◌>>=◌, ◌>>◌, return, Opened, order_mark, prolog, asides, ending}
 use Rattle.listings.specs.declared.records.Kind.{Kind}
-use Rattle.markup.specs.declared.answers.At.{At}
+use Rattle.markup.specs.declared.answers.Fault.{Fault as Blame}
 use Rattle.markup.specs.declared.answers.Start.{Start}
-use Rattle.markup.specs.Places.{Opening}
+use Rattle.markup.specs.Places.{cause_of, blame, Opening}
 use Rattle.portals.specs.Elements as Elements
 use Rattle.portals.specs.Elements.{Phase, Effect}
 use Rattle.portals.specs.Records.{record_of}
 use Rattle.portals.specs.Readings.{Reached, reached, adding, doing, filling, telling, entering, sinking, content_in, element_in}
-use Rattle.portals.specs.Outcomes.{fault_number, most_xml}
+use Rattle.portals.specs.Outcomes.{most_xml}
 use Rattle.ledger.specs.Ledgers.{Ledger, ledgered}
-use Rattle.ledger.specs.Places.{ledger_at, Fits, Offered}
+use Rattle.ledger.specs.declared.items.Item.{Item}
+use Rattle.ledger.specs.Places.{ledger_at, record_by, number_of, Fits, Offered}
 use Rattle.elements.specs.declared.giving.Went.{Went}
+use Rattle.elements.specs.declared.rows.Phase.{Phase as At}
+use Rattle.elements.specs.declared.rows.Effect.{Effect as Does}
 use Rattle.elements.specs.Rows.{phase_at, effect_at}
 
 -- ---- answers
--- the place behind what was read, and what was; or a fault's number and place
+-- the place behind what was read, and what was; or the fault with its place
 pub data Going (A : Type 0) : Type 0 where
   went : ℕ → A → Going A
-  stopped : ℕ → ℕ → Going A
+  stopped : Blame → Going A
 
 -- an answer, in a text of so many bytes
 abbrev pub going_of : {A : Type 0} → ℕ → Got A → Going A
 going_of l (got y r) = went (l - length r) y
-going_of l (fault e n) = stopped (fault_number e) (l - n)
+going_of l (fault e n) = stopped (blame (cause_of e) (l - n))
 
 -- what m reads from the place i of s on
 unfoldable pub read_on : {A : Type 0} → Reader A → Text → ℕ → Going A
 read_on m s i = going_of (length s) (m (drop i s))
 
 -- what the code hands back, with the value that was read
-abbrev pub shown_by : {A : Type 0} → ℕ → ℕ → A → Going A
-shown_by f n y = cond (eqb f 0) (went n y) (stopped f n)
+abbrev pub shown_by : {A : Type 0} → Result ℕ Blame → A → Going A
+shown_by (Ok n) y = went n y
+shown_by (Err e) y = stopped e
+
+-- the same of what is done at a place, where reading then goes on
+abbrev pub done_by : {A : Type 0} → Result (Unit {0}) Blame → ℕ → A → Going A
+done_by (Ok u) i y = went i y
+done_by (Err e) i y = stopped e
 
 -- how far reading has come: the phase, and what the table w keeps of the file s
-abbrev pub reached_at : Text → ℕ → List ℕ → Reached Ledger
+abbrev pub reached_at : Text → At → List ℕ → Reached Ledger
 reached_at s phase w = reached (phase_at phase) (ledger_at s w)
+
+-- the same of what the code hands back of it
+abbrev pub came : Text → List ℕ → Result Went Blame → Going (Reached Ledger)
+came s w (Ok g) = went g.next (reached_at s g.phase w)
+came s w (Err e) = stopped e
+
+abbrev pub place_come : Result Went Blame → ℕ
+place_come (Ok g) = g.next
+place_come (Err e) = e.at
 
 -- ---- what is known before, and what comes of it
 -- a content or an element is to be read from `at` on, in an element whose first tag stands at `here`
-pub record Ready (s : Text) (at here phase : ℕ) (w : List ℕ) : Type 0 where
+pub record Ready (s : Text) (at here : ℕ) (w : List ℕ) : Type 0 where
   pub within : at ≤ length s
   pub begun : here ≤ at
   pub short : length s ≤ most_xml
-  pub phases : phase < 12
   pub fits : Fits w
 
 -- the first tag t stands at `at`
@@ -59,27 +76,25 @@ pub record Entered (s : Text) (at : ℕ) (t : Start) (w : List ℕ) : Type 0 whe
   pub tag : Tagged s at t
   pub fits : Fits w
 
--- a record of the text t at `place` is to be given by the element whose first tag stands at `at`; that leaves the phase, and reading goes on at `next`
-pub record Saying (s : Text) (at place next phase kind : ℕ) (t : Text) (w : List ℕ) : Type 0 where
-  pub offered : Offered s w kind place t
+-- a record of the text t at `place` is to be given by the element whose first tag stands at `at`; reading then goes on at `next`
+pub record Saying (s : Text) (at place next : ℕ) (item : Item) (t : Text) (w : List ℕ) : Type 0 where
+  pub offered : Offered s w (number_of item) place t
   pub here : at ≤ length s
   pub within : next ≤ length s
-  pub phases : phase < 12
 
 -- it is read, and the phase, the place and the records are due
-pub record Gone (s : Text) (due : Going (Reached Ledger)) (fault next phase : ℕ) (w : List ℕ) : Type 0 where
-  pub answer : shown_by fault next (reached_at s phase w) ≡ due
-  pub within : next ≤ length s
-  pub phases : phase < 12
+pub record Gone (s : Text) (due : Going (Reached Ledger)) (r : Result Went Blame) (w : List ℕ) : Type 0 where
+  pub answer : came s w r ≡ due
+  pub within : place_come r ≤ length s
   pub fits : Fits w
 
 -- what r hands back is what m reads from the place i on
-abbrev pub Comes : Text → Reader (Reached Ledger) → ℕ → Went → List ℕ → Type 0
-Comes s m i r w = Gone s (read_on m s i) r.fault r.next r.phase w
+abbrev pub Comes : Text → Reader (Reached Ledger) → ℕ → Result Went Blame → List ℕ → Type 0
+Comes s m i r w = Gone s (read_on m s i) r w
 
 -- the same where the phase stays, and the records do, whatever they are
-abbrev pub Passes : Text → ℕ → (Reached Ledger → Reader (Reached Ledger)) → ℕ → At → Type 0
-Passes s phase m i r = (x : Ledger) → shown_by r.fault r.next (reached (phase_at phase) x) ≡ read_on (m (reached (phase_at phase) x)) s i
+abbrev pub Passes : Text → At → (Reached Ledger → Reader (Reached Ledger)) → ℕ → Result ℕ Blame → Type 0
+Passes s phase m i r = (x : Ledger) → shown_by r (reached (phase_at phase) x) ≡ read_on (m (reached (phase_at phase) x)) s i
 
 -- ---- the readers of `portals` with what is kept in the work table
 -- what the first tag t at `at` opens
@@ -119,7 +134,12 @@ leading = order_mark >> prolog >> asides
 abbrev pub trailing : Reader (Unit {0})
 trailing = asides >> ending
 
--- what the element of that kind whose first tag stands at `at` does where it begins is done: the number of the rule that its record breaks, or 0
-pub record Done (s : Text) (at kind : ℕ) (w : List ℕ) (fault : ℕ) (w' : List ℕ) : Type 0 where
-  pub answer : (i : ℕ) → i ≤ length s → shown_by fault (cond (eqb fault 0) i at) (ledger_at s w') ≡ read_on (doing ledgered (length s - at) (effect_at kind) (ledger_at s w)) s i
+-- the record of that kind whose text stands at `place` is given by the element whose first tag stands at `at`
+pub record Given (s : Text) (at place : ℕ) (item : Item) (w : List ℕ) (r : Result (Unit {0}) Blame) (w' : List ℕ) : Type 0 where
+  pub answer : (i : ℕ) → i ≤ length s → done_by r i (ledger_at s w') ≡ read_on (adding ledgered (length s - at) (record_by s (number_of item) place) (ledger_at s w)) s i
+  pub fits : Fits w'
+
+-- what the element whose first tag stands at `at` does where it begins is done
+pub record Done (s : Text) (at : ℕ) (effect : Does) (w : List ℕ) (r : Result (Unit {0}) Blame) (w' : List ℕ) : Type 0 where
+  pub answer : (i : ℕ) → i ≤ length s → done_by r i (ledger_at s w') ≡ read_on (doing ledgered (length s - at) (effect_at effect) (ledger_at s w)) s i
   pub fits : Fits w'

@@ -2,14 +2,15 @@
 ghost use Rattle.std.specs.Prelude.{◌≡◌, ◌+◌, ◌≤◌, ◌<◌, length};
 ghost use Rattle.text.specs.Texts.{part, bytes, same};
 ghost use Rattle.portals.specs.Readings.{kept_of, root_of};
-ghost use Rattle.markup.specs.Places.{Within, read_at};
+ghost use Rattle.markup.specs.Places.{Within, place_of, read_at};
 ghost use Rattle.ledger.specs.Ledgers.{ledgered, no_records};
 ghost use Rattle.ledger.specs.Places.{ledger_at, Fits};
 ghost use Rattle.elements.specs.Goings.{read_on, shown_by, Ready, Comes, leading, trailing};
 
 use crate::giving::Went;
+use crate::rows::Phase;
 use crate::walking;
-use markup::answers::At;
+use markup::answers::Fault;
 use markup::{around, tags};
 use text::texts;
 
@@ -17,36 +18,26 @@ use text::texts;
 const BELOW_ROOT: usize = 7;
 
 // What stands before the root: the byte order mark, the XML declaration, white space and comments.
-pub fn lead(s: &[u8]) -> At
-    ensures within { Within s.now 0 result.next }
+pub fn lead(s: &[u8]) -> Result<usize, Fault>
+    ensures within { Within s.now 0 (place_of result) }
     ensures exact { result ≡ read_at leading s.now 0 }
 {
     let m = around::order_mark(s);
-    if m.fault != 0 {
-        return m;
-    }
-    let p = around::prolog(s, m.next);
-    if p.fault != 0 {
-        return p;
-    }
-    around::asides(s, p.next)
+    let p = around::prolog(s, m)?;
+    around::asides(s, p)
 }
 
 // What stands from `at` on behind the root: white space and comments, and then the end.
-pub fn trail(s: &[u8], at: usize) -> At
+pub fn trail(s: &[u8], at: usize) -> Result<usize, Fault>
     requires { at ≤ length s.now }
-    ensures within { Within s.now at result.next }
+    ensures within { Within s.now at (place_of result) }
     ensures exact { result ≡ read_at trailing s.now at }
 {
-    let a = around::asides(s, at);
-    if a.fault != 0 {
-        return a;
-    }
-    let n = a.next;
+    let n = around::asides(s, at)?;
     if n < s.len() {
-        return At { fault: 17, next: n };
+        return Err(Fault::malformed(n));
     }
-    At { fault: 0, next: n }
+    Ok(n)
 }
 
 // Whether the bytes from a to e are the root's name.
@@ -58,45 +49,25 @@ pub fn is_root(s: &[u8], a: usize, e: usize) -> bool
 }
 
 // The root element at `at`.
-pub fn root(s: &[u8], at: usize, w: &mut [u32]) -> Went
-    requires { Ready s.now at at 0 w.old }
+pub fn root(s: &[u8], at: usize, w: &mut [u32]) -> Result<Went, Fault>
+    requires { Ready s.now at at w.old }
     ensures { Comes s.now (root_of ledgered (ledger_at s.now w.old)) at result w.new }
 {
-    let t = tags::start_tag(s, at);
-    if t.fault != 0 {
-        return Went {
-            fault: t.fault,
-            next: t.next,
-            phase: 0,
-        };
-    }
+    let t = tags::start_tag(s, at)?;
     if !is_root(s, at + 1, t.end) {
-        return Went {
-            fault: 17,
-            next: at,
-            phase: 0,
-        };
+        return Err(Fault::malformed(at));
     }
-    walking::filling(s, at, BELOW_ROOT, t, 0, w)
+    walking::filling(s, at, BELOW_ROOT, t, Phase::InApp, w)
 }
 
-// The file s, its records kept in w.
-pub fn file(s: &[u8], w: &mut [u32]) -> At
+// The file s, its records kept in w: the place behind it, which is its end.
+pub fn file(s: &[u8], w: &mut [u32]) -> Result<usize, Fault>
     requires { (length s.now ≤ 65536) × Fits w.old × (ledger_at s.now w.old ≡ no_records) }
-    ensures within { result.next ≤ length s.now }
-    ensures exact { shown_by result.fault result.next (ledger_at s.now w.new) ≡ read_on (kept_of ledgered no_records) s.now 0 }
+    ensures within { place_of result ≤ length s.now }
+    ensures exact { shown_by result (ledger_at s.now w.new) ≡ read_on (kept_of ledgered no_records) s.now 0 }
     ensures fits { Fits w.new }
 {
-    let l = lead(s);
-    if l.fault != 0 {
-        return l;
-    }
-    let r = root(s, l.next, w);
-    if r.fault != 0 {
-        return At {
-            fault: r.fault,
-            next: r.next,
-        };
-    }
+    let l = lead(s)?;
+    let r = root(s, l, w)?;
     trail(s, r.next)
 }

@@ -1,144 +1,218 @@
-// What a first tag comes to, by where it stands: phases and sorts are the numbers of `phase_number` and `sort_number`.
-ghost use Rattle.std.specs.Prelude.{◌≡◌, not, ◌||◌, ◌<◌};
+// What a first tag comes to, by where it stands.
+ghost use Rattle.std.specs.Prelude.{◌≡◌, not, ◌||◌};
 ghost use Rattle.portals.specs.Elements.{sort_of, text_sort, refused_or, opening, is_complete};
 ghost use Rattle.elements.specs.Rows.{phase_at, sort_at, opening_of, FittingRow};
 
+use ledger::items::Item;
 use text::texts;
 
-// In an element that is passed over.
-pub const PASSED: u8 = 11;
+// Where one stands in an element: in `web-app`, in a `security-role` before its `role-name` and behind it, in a `security-constraint` before its collections,
+// behind one of them and behind its `auth-constraint`, in a `web-resource-collection` before its patterns, behind one of them, behind an `http-method` and
+// behind an `http-method-omission`, in an `auth-constraint`, and in an element that is passed over.
+#[derive(Clone, Copy, PartialEq, Eq)]
+pub enum Phase {
+    InApp,
+    InRole,
+    InRoleNamed,
+    InConstraint,
+    InCollected,
+    InGuarded,
+    InCollection,
+    InPatterned,
+    InMethods,
+    InOmissions,
+    InAuth,
+    PassedOver,
+}
 
-// What a first tag comes to, ten sorts for each phase: 16 times the way (0 out of place, 1 refused, 2 it holds content, 3 it is a text) and the phase that the element round it is left at.
-const WAYS: [u8; 120] = *b"\
-    \x20\x20\x00\x00\x00\x00\x00\x00\x10\x20\
-    \x00\x00\x00\x00\x00\x00\x00\x32\x10\x21\
-    \x00\x00\x00\x00\x00\x00\x00\x00\x10\x22\
-    \x00\x00\x24\x00\x00\x00\x00\x00\x10\x23\
-    \x00\x00\x24\x25\x00\x00\x00\x00\x10\x24\
-    \x00\x00\x00\x00\x00\x00\x00\x00\x10\x25\
-    \x00\x00\x00\x00\x37\x00\x00\x00\x10\x26\
-    \x00\x00\x00\x00\x37\x38\x39\x00\x10\x27\
-    \x00\x00\x00\x00\x00\x38\x00\x00\x10\x28\
-    \x00\x00\x00\x00\x00\x00\x39\x00\x10\x29\
-    \x00\x00\x00\x00\x00\x00\x00\x3a\x10\x2a\
-    \x2b\x2b\x2b\x2b\x2b\x2b\x2b\x2b\x10\x2b";
+// The elements by their names: the eight that are wanted where they belong, those that are refused anywhere, and all others.
+#[derive(Clone, Copy, PartialEq, Eq)]
+pub enum Sort {
+    SecurityRole,
+    SecurityConstraint,
+    WebResourceCollection,
+    AuthConstraint,
+    UrlPattern,
+    HttpMethod,
+    HttpMethodOmission,
+    RoleName,
+    Unwanted,
+    Other,
+}
 
-// 16 times the phase that its own content begins at, and what it gives: the number of a record's kind, 8 for nothing, 9 for an authorization constraint.
-const GIFTS: [u8; 120] = *b"\
-    \x18\x31\x08\x08\x08\x08\x08\x08\x08\xb8\
-    \x08\x08\x08\x08\x08\x08\x08\x00\x08\xb8\
-    \x08\x08\x08\x08\x08\x08\x08\x08\x08\xb8\
-    \x08\x08\x64\x08\x08\x08\x08\x08\x08\xb8\
-    \x08\x08\x64\xa9\x08\x08\x08\x08\x08\xb8\
-    \x08\x08\x08\x08\x08\x08\x08\x08\x08\xb8\
-    \x08\x08\x08\x08\x05\x08\x08\x08\x08\xb8\
-    \x08\x08\x08\x08\x05\x06\x07\x08\x08\xb8\
-    \x08\x08\x08\x08\x08\x06\x08\x08\x08\xb8\
-    \x08\x08\x08\x08\x08\x08\x07\x08\x08\xb8\
-    \x08\x08\x08\x08\x08\x08\x08\x03\x08\xb8\
-    \xb8\xb8\xb8\xb8\xb8\xb8\xb8\xb8\x08\xb8";
+// What an element does where it begins: nothing, it opens a constraint or a collection, or it makes the last constraint one with an authorization constraint.
+#[derive(Clone, Copy, PartialEq, Eq)]
+pub enum Effect {
+    Nothing,
+    Opens,
+    Collects,
+    Guards,
+}
+
+// An element whose content is read: where that leaves the element round it, where its own content begins, and what it does.
+#[derive(Clone, Copy)]
+pub struct Holder {
+    pub next: Phase,
+    pub first: Phase,
+    pub effect: Effect,
+}
+
+// An element whose text is the field of a record: where that leaves the element round it, and the record's kind.
+#[derive(Clone, Copy)]
+pub struct Leaf {
+    pub next: Phase,
+    pub item: Item,
+}
 
 // What a first tag comes to.
 #[derive(Clone, Copy)]
-pub struct Row {
-    pub way: u8,
-    pub next: u8,
-    pub first: u8,
-    pub kind: u8,
+pub enum Opening {
+    Misplaced,
+    Refused,
+    Holds(Holder),
+    Says(Leaf),
 }
 
 // The sort of an element that is wanted nowhere: refused, or passed over.
-pub fn other_sort(n: &[u8]) -> u8
-    ensures is { sort_at result ≡ refused_or n.now }
-    ensures small { result < 10 }
+pub fn other_sort(n: &[u8]) -> Sort
+    ensures { sort_at result ≡ refused_or n.now }
 {
     if texts::are_same(n, b"user-data-constraint") {
-        return 8;
+        return Sort::Unwanted;
     }
     if texts::are_same(n, b"deny-uncovered-http-methods") {
-        return 8;
+        return Sort::Unwanted;
     }
-    9
+    Sort::Other
 }
 
 // The sort of an element that holds no others where it is wanted.
-pub fn text_sort(n: &[u8]) -> u8
-    ensures is { sort_at result ≡ text_sort n.now }
-    ensures small { result < 10 }
+pub fn text_sort(n: &[u8]) -> Sort
+    ensures { sort_at result ≡ text_sort n.now }
 {
     if texts::are_same(n, b"url-pattern") {
-        return 4;
+        return Sort::UrlPattern;
     }
     if texts::are_same(n, b"http-method") {
-        return 5;
+        return Sort::HttpMethod;
     }
     if texts::are_same(n, b"http-method-omission") {
-        return 6;
+        return Sort::HttpMethodOmission;
     }
     if texts::are_same(n, b"role-name") {
-        return 7;
+        return Sort::RoleName;
     }
     other_sort(n)
 }
 
 // The sort of an element by its name.
-pub fn sort_of(n: &[u8]) -> u8
-    ensures is { sort_at result ≡ sort_of n.now }
-    ensures small { result < 10 }
+pub fn sort_of(n: &[u8]) -> Sort
+    ensures { sort_at result ≡ sort_of n.now }
 {
     if texts::are_same(n, b"security-role") {
-        return 0;
+        return Sort::SecurityRole;
     }
     if texts::are_same(n, b"security-constraint") {
-        return 1;
+        return Sort::SecurityConstraint;
     }
     if texts::are_same(n, b"web-resource-collection") {
-        return 2;
+        return Sort::WebResourceCollection;
     }
     if texts::are_same(n, b"auth-constraint") {
-        return 3;
+        return Sort::AuthConstraint;
     }
     text_sort(n)
 }
 
 // What a first tag of that sort comes to at a phase.
-pub fn row_of(phase: u8, sort: u8) -> Row
-    requires { (phase < 12) × (sort < 10) }
+pub fn row_of(phase: Phase, sort: Sort) -> Opening
     ensures is { opening_of result ≡ opening (phase_at phase) (sort_at sort) }
     ensures fitting { FittingRow result }
 {
-    let k = phase as usize * 10 + sort as usize;
-    let a = WAYS[k];
-    let b = GIFTS[k];
-    Row {
-        way: a / 16,
-        next: a % 16,
-        first: b / 16,
-        kind: b % 16,
+    match (phase, sort) {
+        (_, Sort::Unwanted) => Opening::Refused,
+        (_, Sort::Other) | (Phase::PassedOver, _) => {
+            Opening::Holds(Holder {
+                next: phase,
+                first: Phase::PassedOver,
+                effect: Effect::Nothing,
+            })
+        }
+        (Phase::InApp, Sort::SecurityRole) => {
+            Opening::Holds(Holder {
+                next: Phase::InApp,
+                first: Phase::InRole,
+                effect: Effect::Nothing,
+            })
+        }
+        (Phase::InApp, Sort::SecurityConstraint) => {
+            Opening::Holds(Holder {
+                next: Phase::InApp,
+                first: Phase::InConstraint,
+                effect: Effect::Opens,
+            })
+        }
+        (Phase::InRole, Sort::RoleName) => {
+            Opening::Says(Leaf {
+                next: Phase::InRoleNamed,
+                item: Item::Role,
+            })
+        }
+        (Phase::InConstraint | Phase::InCollected, Sort::WebResourceCollection) => {
+            Opening::Holds(Holder {
+                next: Phase::InCollected,
+                first: Phase::InCollection,
+                effect: Effect::Collects,
+            })
+        }
+        (Phase::InCollected, Sort::AuthConstraint) => {
+            Opening::Holds(Holder {
+                next: Phase::InGuarded,
+                first: Phase::InAuth,
+                effect: Effect::Guards,
+            })
+        }
+        (Phase::InCollection | Phase::InPatterned, Sort::UrlPattern) => {
+            Opening::Says(Leaf {
+                next: Phase::InPatterned,
+                item: Item::Pattern,
+            })
+        }
+        (Phase::InPatterned | Phase::InMethods, Sort::HttpMethod) => {
+            Opening::Says(Leaf {
+                next: Phase::InMethods,
+                item: Item::Method,
+            })
+        }
+        (Phase::InPatterned | Phase::InOmissions, Sort::HttpMethodOmission) => {
+            Opening::Says(Leaf {
+                next: Phase::InOmissions,
+                item: Item::Omit,
+            })
+        }
+        (Phase::InAuth, Sort::RoleName) => {
+            Opening::Says(Leaf {
+                next: Phase::InAuth,
+                item: Item::Allow,
+            })
+        }
+        _ => Opening::Misplaced,
     }
 }
 
 // Whether nothing is missing where an element ends at that phase.
-pub fn is_whole(phase: u8) -> bool
-    requires { phase < 12 }
+pub fn is_whole(phase: Phase) -> bool
     ensures { result ≡ is_complete (phase_at phase) }
 {
-    if phase == 1 {
-        return false;
-    }
-    if phase == 3 {
-        return false;
-    }
-    phase != 6
+    !matches!(
+        phase,
+        Phase::InRole | Phase::InConstraint | Phase::InCollection
+    )
 }
 
 // Whether a tag without content lacks some: what its content would have to begin with is missing.
-pub fn lacks(full: bool, first: u8) -> bool
-    requires { first < 12 }
+pub fn lacks(full: bool, first: Phase) -> bool
     ensures { result ≡ not (full || is_complete (phase_at first)) }
 {
-    if full {
-        return false;
-    }
-    !is_whole(first)
+    !full && !is_whole(first)
 }
