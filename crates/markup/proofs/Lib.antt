@@ -1,1 +1,9 @@
--- Laws.
+pub mod Places
+pub mod Steps
+pub mod Blames
+pub mod Values
+pub mod Loops
+pub mod Openings
+pub mod Surroundings
+pub mod Tallied
+pub mod Keepings

@@ -78,6 +78,10 @@ place_of (Err e) = e.at
 abbrev pub put_at : ℕ → ℕ → Blame → Blame
 put_at p l e = cond (eqb e.at l) e (blame e.cause p)
 
+abbrev pub blame_at : {A : Type 0} → ℕ → ℕ → Result A Blame → Result A Blame
+blame_at p l (Ok a) = Ok a
+blame_at p l (Err e) = Err (put_at p l e)
+
 -- what a letter's, an end's and a first tag's answer are put together of, and the places that they hand back
 abbrev pub letter : ℕ → ℕ → Letter
 letter b n = record { byte = b; next = n }

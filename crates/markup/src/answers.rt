@@ -1,6 +1,6 @@
 // What is handed back: why a text is refused and where, and what is read with the place behind it.
 ghost use Rattle.std.specs.Prelude.{◌≡◌};
-ghost use Rattle.markup.specs.Places.{number_of, blame, put_at};
+ghost use Rattle.markup.specs.Places.{number_of, blame, put_at, blame_at};
 
 // What is wrong with a file, or with what it says.
 #[derive(Clone, Copy, PartialEq, Eq)]
@@ -61,6 +61,13 @@ impl Fault {
             at: here,
         }
     }
+}
+
+// The answer r, its fault put at `here`, unless the text of `len` bytes runs out.
+pub fn blame<T>(r: Result<T, Fault>, here: usize, len: usize) -> Result<T, Fault>
+    ensures { result ≡ blame_at here len r }
+{
+    r.map_err(|f| f.blamed(here, len))
 }
 
 // A byte that was read, and the place behind it.

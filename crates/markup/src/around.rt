@@ -4,7 +4,7 @@ ghost use Rattle.documents.specs.Parts.{order_mark, prolog, is_aside, aside, asi
 ghost use Rattle.markup.specs.Places.{Within, place_of, read_at, declaration};
 
 use crate::answers::Fault;
-use crate::{attributes, chars, comments, words};
+use crate::{answers, attributes, chars, comments, words};
 
 // The place behind the byte order mark at the start, if there is one.
 pub fn order_mark(s: &[u8]) -> usize
@@ -34,7 +34,7 @@ pub fn prolog(s: &[u8], at: usize) -> Result<usize, Fault>
     let Ok(n) = words::word(s, at, b"<?xml") else {
         return Ok(at);
     };
-    declared(s, n).map_err(|f| f.blamed(at, s.len()))
+    answers::blame(declared(s, n), at, s.len())
 }
 
 // Whether white space or a comment stands at `at`.

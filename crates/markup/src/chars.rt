@@ -3,6 +3,7 @@ ghost use Rattle.std.specs.Prelude.{◌≡◌};
 ghost use Rattle.documents.specs.Chars.{is_white, is_char, is_plain, is_name_start, is_name_byte, is_quote};
 
 // Whether b is white space.
+#[tactic(auto, unfolding(documents::specs::Chars::is_white))]
 pub fn is_white(b: u8) -> bool
     ensures { result ≡ is_white b }
 {
@@ -10,6 +11,7 @@ pub fn is_white(b: u8) -> bool
 }
 
 // Whether b may stand in a file.
+#[tactic(auto, unfolding(documents::specs::Chars::is_char))]
 pub fn is_char(b: u8) -> bool
     ensures { result ≡ is_char b }
 {
@@ -17,6 +19,7 @@ pub fn is_char(b: u8) -> bool
 }
 
 // Whether b stands for itself in a text.
+#[tactic(auto, unfolding(documents::specs::Chars::is_plain, documents::specs::Chars::is_char, documents::specs::Chars::is_white))]
 pub fn is_plain(b: u8) -> bool
     ensures { result ≡ is_plain b }
 {
@@ -24,6 +27,7 @@ pub fn is_plain(b: u8) -> bool
 }
 
 // Whether b is the start of a name.
+#[tactic(auto, unfolding(documents::specs::Chars::is_name_start))]
 pub fn is_name_start(b: u8) -> bool
     ensures { result ≡ is_name_start b }
 {
@@ -31,6 +35,7 @@ pub fn is_name_start(b: u8) -> bool
 }
 
 // Whether b is a byte of a name.
+#[tactic(auto, unfolding(documents::specs::Chars::is_name_byte))]
 pub fn is_name_byte(b: u8) -> bool
     ensures { result ≡ is_name_byte b }
 {
@@ -38,6 +43,7 @@ pub fn is_name_byte(b: u8) -> bool
 }
 
 // Whether b is a quote.
+#[tactic(auto, unfolding(documents::specs::Chars::is_quote))]
 pub fn is_quote(b: u8) -> bool
     ensures { result ≡ is_quote b }
 {

@@ -4,7 +4,7 @@ ghost use Rattle.documents.specs.Parts.{remark, comment};
 ghost use Rattle.markup.specs.Places.{Within, place_of, read_at, note_text};
 
 use crate::answers::Fault;
-use crate::{chars, words};
+use crate::{answers, chars, words};
 
 // The rest of a comment from `at` on.
 pub fn remark(s: &[u8], at: usize) -> Result<usize, Fault>
@@ -45,5 +45,5 @@ pub fn comment(s: &[u8], at: usize) -> Result<usize, Fault>
     ensures within { Within s.now at (place_of result) }
     ensures exact { result ≡ read_at comment s.now at }
 {
-    noted(s, at).map_err(|f| f.blamed(at, s.len()))
+    answers::blame(noted(s, at), at, s.len())
 }

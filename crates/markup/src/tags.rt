@@ -5,7 +5,7 @@ ghost use Rattle.documents.specs.Parts.{tag_end, start_tag, end_tag, second_tag}
 ghost use Rattle.markup.specs.Places.{Within, place_of, read_at, read_as, ended, ended_at, start_at, Opening, rest_of_tag, name_of_tag, whole_tag};
 
 use crate::answers::{Ended, Fault, Start};
-use crate::{attributes, words};
+use crate::{answers, attributes, words};
 
 // The end of a first tag at `at`: `>` or `/>`.
 pub fn tag_end(s: &[u8], at: usize) -> Result<Ended, Fault>
@@ -64,7 +64,7 @@ pub fn start_tag(s: &[u8], at: usize) -> Result<Start, Fault>
     ensures exact { start_at result ≡ read_at start_tag s.now at }
     ensures opened { IfOk result (Opening s.now at) }
 {
-    first_tag(s, at).map_err(|f| f.blamed(at, s.len()))
+    answers::blame(first_tag(s, at), at, s.len())
 }
 
 // The second tag of an element at `at`, its faults where they are met; its name is the bytes from a to e.
@@ -85,5 +85,5 @@ pub fn second_tag(s: &[u8], at: usize, a: usize, e: usize) -> Result<usize, Faul
     ensures within { Within s.now at (place_of result) }
     ensures exact { result ≡ read_at (second_tag (part a e s.now)) s.now at }
 {
-    end_tag(s, at, a, e).map_err(|f| f.blamed(at, s.len()))
+    answers::blame(end_tag(s, at, a, e), at, s.len())
 }

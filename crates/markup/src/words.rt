@@ -1,5 +1,5 @@
 // Words, names and white space from a place on; and what stands at a place.
-ghost use Rattle.std.specs.Prelude.{◌≡◌, [], ◌∷◌, ◌≤◌, eqb, length, drop};
+ghost use Rattle.std.specs.Prelude.{◌≡◌, [], ◌∷◌, ◌≤◌, ◌<◌, ℕ, Bool, eqb, length, drop};
 ghost use Rattle.text.specs.Texts.{bytes, starts_with};
 ghost use Rattle.documents.specs.Chars.{is_white, is_plain, is_name_byte, next, after};
 ghost use Rattle.documents.specs.Parts.{word, name, ends, goes_on};
@@ -8,13 +8,28 @@ ghost use Rattle.markup.specs.Places.{Within, place_of, read_at};
 use crate::answers::Fault;
 use crate::chars;
 
+// The place behind the bytes at `at` that are of a kind.
+pub fn past<F: Fn(u8) -> bool>(s: &[u8], at: usize, kind: F) -> usize
+    requires place { at ≤ length s.now }
+    requires callable { F.IsAlwaysCallable kind }
+    ensures within { Within s.now at result }
+    ensures exact { (p : ℕ → Bool) → ((b : ℕ) (r : Bool) → b < 256 → F.post kind b r → r ≡ p b) → drop result s.now ≡ after p (drop at s.now) }
+{
+    for n in at..s.len() {
+        if !kind(s[n]) {
+            return n;
+        }
+    }
+    s.len()
+}
+
 // The place behind the white space at `at`.
 pub fn white(s: &[u8], at: usize) -> usize
     requires { at ≤ length s.now }
     ensures within { Within s.now at result }
     ensures exact { drop result s.now ≡ after is_white (drop at s.now) }
 {
-    at + s[at..].iter().take_while(|b| chars::is_white(**b)).count()
+    past(s, at, chars::is_white)
 }
 
 // The place behind the bytes at `at` that stand for themselves in a text.
@@ -23,7 +38,7 @@ pub fn plain_end(s: &[u8], at: usize) -> usize
     ensures within { Within s.now at result }
     ensures exact { drop result s.now ≡ after is_plain (drop at s.now) }
 {
-    at + s[at..].iter().take_while(|b| chars::is_plain(**b)).count()
+    past(s, at, chars::is_plain)
 }
 
 // The bytes of w, from `at` on.
@@ -57,10 +72,7 @@ pub fn name_end(s: &[u8], at: usize) -> usize
     ensures within { Within s.now at result }
     ensures exact { drop result s.now ≡ after is_name_byte (drop at s.now) }
 {
-    at + s[at..]
-        .iter()
-        .take_while(|b| chars::is_name_byte(**b))
-        .count()
+    past(s, at, chars::is_name_byte)
 }
 
 // A name at `at`.

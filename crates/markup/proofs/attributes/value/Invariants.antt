@@ -1,0 +1,13 @@
+-- `value` meets its contract: each letter is a turn.
+use mathlib.Core.Path.{◌≡◌}
+use Prim.Native.Nat.{◌≤◌, ◌-◌}
+use lib.ListN.{length}
+use Rattle.documents.specs.Parts as list
+use Rattle.markup.specs.Places.{read_at}
+use Rattle.markup.proofs.attributes.value.Given as goal
+
+abbrev pub invariant-loop-n : goal.invariant-loop-n
+invariant-loop-n l = (l.at ≤ l.n) × (l.n ≤ length l.s) × (read_at (list.value l.q) l.s l.at ≡ read_at (list.value l.q) l.s l.n)
+
+abbrev pub decreases-loop-n : goal.decreases-loop-n
+decreases-loop-n l = length l.s - l.n

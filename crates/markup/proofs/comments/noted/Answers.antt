@@ -1,0 +1,11 @@
+-- `noted` meets its contract: a law for each step.
+use borrow.Author.Rules.{rules}
+use Rattle.markup.proofs.Steps.{stops, passed}
+use Rattle.markup.proofs.Loops.{word_goes}
+use Rattle.markup.proofs.comments.noted.Goals as goal
+
+pub returns-in_err-n-clause-exact : goal.returns-in_err-n-clause-exact
+returns-in_err-n-clause-exact c = passed c.from_residual.ensures.1 (search (rules, stops))
+
+pub returns-clause-exact : goal.returns-clause-exact
+returns-clause-exact c = search (rules, word_goes)
