@@ -16,7 +16,7 @@ use Rattle.markup.specs.declared.answers.Fault.{Fault as Blame}
 use Rattle.markup.specs.declared.answers.Letter.{Letter}
 use Rattle.markup.specs.Places.{blame, placed_as, read_as, read_at, read_or, letter, ended}
 use Rattle.markup.proofs.Places.{here, nothing_left, bad, said}
-use Rattle.markup.proofs.Steps.{not_both, same_value, went_as, started_is, fine}
+use Rattle.markup.proofs.Steps.{not_both, same_value, went_as, started_is, fine, mapped, as_well}
 
 module _ {A : Type 0} (m : Reader A) (s : Text) (i : ℕ) where
   -- ---- an answer without a fault: what was read, and the text that is left
@@ -118,3 +118,7 @@ letter_there h s i g e =
     e
     ∙ ap (λ (n : ℕ). placed_as h (length s) (blamed n letter_of (drop i s))) (sym (length-drop i s))
     ∙ ap (placed_as h (length s)) (blamed_once letter_of (drop i s) (letter_once (drop i s)))
+
+-- a word alone, and what it tells
+pub returned_ended : (w : Text) (b : Bool) (s : Text) (i n : ℕ) → Ok n ≡ read_at (word w) s i → Ok (ended b n) ≡ read_as ended (word w >> return b) s i
+returned_ended w b s i n e = as_well (word w) s i (λ a k. k) (ended b) n e ∙ sym (mapped (word w) s i (λ u. b) ended)

@@ -6,8 +6,8 @@ use Rattle.documents.specs.Parts as list
 use Rattle.markup.specs.Places.{read_at}
 use Rattle.markup.proofs.attributes.all_of.Given as goal
 
-abbrev pub invariant-loop : goal.invariant-loop
-invariant-loop l = (l.at ≤ l.n) × (l.n ≤ length l.s) × (read_at list.attributes l.s l.at ≡ read_at list.attributes l.s l.n)
+abbrev pub invariant-loop-n : goal.invariant-loop-n
+invariant-loop-n l = (l.at ≤ l.n) × (l.n ≤ length l.s) × (read_at list.attributes l.s l.at ≡ read_at list.attributes l.s l.n)
 
-abbrev pub decreases-loop : goal.decreases-loop
-decreases-loop l = length l.s - l.n
+abbrev pub decreases-loop-n : goal.decreases-loop-n
+decreases-loop-n l = length l.s - l.n
