@@ -1,5 +1,6 @@
 // The line of a place.
-ghost use Rattle.std.specs.Prelude.{◌≡◌, min, ◌-◌, ◌≤◌, length};
+ghost use Rattle.std.specs.Prelude.{◌≡◌, min, ◌-◌, ◌≤◌, ◌==◌, length, count_by};
+ghost use Rattle.text.specs.Texts.{newline};
 ghost use Rattle.markup.specs.Lines.{line_at};
 
 // The place p, or the last byte's where that is behind it in a text of so many bytes.
@@ -9,11 +10,18 @@ pub fn place_in(p: usize, len: usize) -> usize
     p.min(len.saturating_sub(1))
 }
 
+// How many lines end in t.
+pub fn ends_in(t: &[u8]) -> usize
+    ensures { result ≡ count_by (λ b. b == newline) t.now }
+{
+    t.iter().filter(|b| **b == b'\n').count()
+}
+
 // The line of the place p in s.
 pub fn line_of(s: &[u8], p: usize) -> u32
     requires { length s.now ≤ 65536 }
     ensures { result ≡ line_at s.now p }
 {
     let end = place_in(p, s.len());
-    1 + s[..end].iter().filter(|b| **b == b'\n').count() as u32
+    1 + ends_in(&s[..end]) as u32
 }
