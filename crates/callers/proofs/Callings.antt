@@ -12,6 +12,7 @@ use lib.Pow.{pow-lt}
 use lib.Dec.{eqb, ltb}
 use lib.Bits.{bit_or}
 use borrow.Author.Tests.{eqb-true, lt-ltb, le-ltb, le-leb, lt-leb, not-true, not-false}
+use Rattle.std.specs.Prelude.{Option, Some, None}
 use Rattle.text.specs.Texts.{Text, tab, newline, all, part, index_of}
 use Rattle.text.specs.Bytes.{between, is_text}
 use Rattle.text.specs.Lines.{Line, before, lines_of, to_field_end}
@@ -21,8 +22,7 @@ use Rattle.reading.specs.Views.{View, view_at}
 use Rattle.entries.specs.declared.tables.Tally.{Tally}
 use Rattle.text.proofs.Truths.{or_right}
 use Rattle.callers.specs.RoleSets.{with_role, check_names, check_caller}
-use Rattle.callers.specs.declared.Checked.{Checked}
-use Rattle.callers.specs.declared.Checked.TheVariants.{Bad, Good}
+use Rattle.callers.specs.declared.Who.{Who}
 use Rattle.callers.specs.declared.Who.TheVariants.{Nobody, Roles}
 
 -- ---- a role put in
@@ -118,7 +118,7 @@ unclean_name : (t : Text) → all is_text t ≡ false → is_role_name t ≡ fal
 unfolding is_role_name is_name
 unclean_name t f = rw (f, and-false (between 1 64 (length t)))
 
-unclean_bad : (view : View) (k x : ℕ) (ls : List Line) → Unclean ls → check_names view k x ls ≡ Bad
+unclean_bad : (view : View) (k x : ℕ) (ls : List Line) → Unclean ls → check_names view k x ls ≡ None
 unfolding check_names
 unclean_bad view k x ls (n, ns, e, f) = rw (e, unclean_name n.bytes f, and-false n.ended)
 
@@ -150,13 +150,13 @@ names_begin view s = record { due = refl }
 
 module _ (view : View) (s : Text) (k x at : ℕ) (v : Naming view s k x at) where
   -- no more names
-  pub names_end : length s ≤ at → Good (Roles x) ≡ check_names view 0 0 (lines_of s)
+  pub names_end : length s ≤ at → Some (Roles x) ≡ check_names view 0 0 (lines_of s)
   unfolding check_names lines_of
   names_end h = sym (v.due ∙ rw (drop_of_length-le s h))
 
   module _ (p : ℕ) (q : p ≡ at + to_field_end (drop at s)) where
     -- the next name lacks its byte 10
-    pub name_open : at < length s → length s ≤ p → Bad ≡ check_names view 0 0 (lines_of s)
+    pub name_open : at < length s → length s ≤ p → None ≡ check_names view 0 0 (lines_of s)
     unfolding check_names
     name_open h g =
         let n : 0 < length (drop at s) = rw (length-drop at s) (omega arith) in
@@ -164,16 +164,16 @@ module _ (view : View) (s : Text) (k x at : ℕ) (v : Naming view s k x at) wher
         sym (v.due ∙ rw (line_open (drop at s) n m))
 
     -- it has a tab
-    pub name_tabbed : p < length s → (get_or s p 0 ≡ 10 → ⊥) → Bad ≡ check_names view 0 0 (lines_of s)
+    pub name_tabbed : p < length s → (get_or s p 0 ≡ 10 → ⊥) → None ≡ check_names view 0 0 (lines_of s)
     name_tabbed h n = sym (v.due ∙ unclean_bad view k x (lines_of (drop at s)) (tabbed_line s at p q h n))
 
     -- it is no role name
-    pub name_wrong : (r : Bool) → p < length s → get_or s p 0 ≡ 10 → r ≡ is_role_name (part at p s) → not r ≡ true → Bad ≡ check_names view 0 0 (lines_of s)
+    pub name_wrong : (r : Bool) → p < length s → get_or s p 0 ≡ 10 → r ≡ is_role_name (part at p s) → not r ≡ true → None ≡ check_names view 0 0 (lines_of s)
     unfolding check_names
     name_wrong r h e i n = sym (v.due ∙ rw (ended_line s at p q h e, ← i, not-true r n))
 
     -- it is one too many
-    pub name_past : (r : Bool) → p < length s → get_or s p 0 ≡ 10 → r ≡ is_role_name (part at p s) → not r ≡ false → 32 ≤ k → Bad ≡ check_names view 0 0 (lines_of s)
+    pub name_past : (r : Bool) → p < length s → get_or s p 0 ≡ 10 → r ≡ is_role_name (part at p s) → not r ≡ false → 32 ≤ k → None ≡ check_names view 0 0 (lines_of s)
     unfolding check_names
     name_past r h e i n m = sym (v.due ∙ rw (ended_line s at p q h e, ← i, not-false r n, le-leb 32 k m))
 
@@ -187,25 +187,25 @@ name_read r view s k x y at p v q h e i n m f =
 -- ---- the caller of a login number
 module _ (view : View) (t : Text) where
   -- logged in
-  pub login_one : (login : ℕ) (r : Checked) → login ≡ 1 → r ≡ check_names view 0 0 (lines_of t) → r ≡ check_caller view login t
+  pub login_one : (login : ℕ) (r : Option Who) → login ≡ 1 → r ≡ check_names view 0 0 (lines_of t) → r ≡ check_caller view login t
   unfolding check_caller
   login_one login r e f = rw e f
 
   -- a number that says nothing
-  pub login_other : (login : ℕ) → (login ≡ 1 → ⊥) → (login ≡ 0 → ⊥) → Bad ≡ check_caller view login t
+  pub login_other : (login : ℕ) → (login ≡ 1 → ⊥) → (login ≡ 0 → ⊥) → None ≡ check_caller view login t
   unfolding check_caller
   login_other zero n m = absurd (m refl)
   login_other (suc zero) n m = absurd (n refl)
   login_other (suc (suc k)) n m = refl
 
 -- not logged in, with names
-pub login_named : (view : View) (t : Text) (login : ℕ) → login ≡ 0 → 0 < length t → Bad ≡ check_caller view login t
+pub login_named : (view : View) (t : Text) (login : ℕ) → login ≡ 0 → 0 < length t → None ≡ check_caller view login t
 unfolding check_caller
 login_named view [] login e h = absurd (omega arith)
 login_named view (x ∷ xs) login e h = rw e
 
 -- not logged in
-pub login_none : (view : View) (t : Text) (login : ℕ) → login ≡ 0 → length t ≤ 0 → Good Nobody ≡ check_caller view login t
+pub login_none : (view : View) (t : Text) (login : ℕ) → login ≡ 0 → length t ≤ 0 → Some Nobody ≡ check_caller view login t
 unfolding check_caller
 login_none view [] login e h = rw e
 login_none view (x ∷ xs) login e h = absurd (omega arith)

@@ -18,13 +18,6 @@ pub enum Who {
     Roles(u64),
 }
 
-// What a login number and a text of names come to: bad, or a caller.
-#[derive(Clone, Copy)]
-pub enum Checked {
-    Bad,
-    Good(Who),
-}
-
 // The set with a role of the listing put in, where the name is one.
 pub fn with_role(s: &[u8], w: &[u32], t: Tally, set: u64, name: &[u8]) -> u64
     requires { Holds s.now t w.now }
@@ -37,8 +30,8 @@ pub fn with_role(s: &[u8], w: &[u32], t: Tally, set: u64, name: &[u8]) -> u64
     set
 }
 
-// The roles of a caller who is logged in.
-pub fn logged_in(s: &[u8], w: &[u32], t: Tally, names: &[u8]) -> Checked
+// The roles of a caller who is logged in, or nothing where the names are bad.
+pub fn logged_in(s: &[u8], w: &[u32], t: Tally, names: &[u8]) -> Option<Who>
     requires { Holds s.now t w.now }
     ensures { result ≡ check_names (view_at s.now t w.now) 0 0 (lines_of names.now) }
 {
@@ -47,40 +40,30 @@ pub fn logged_in(s: &[u8], w: &[u32], t: Tally, names: &[u8]) -> Checked
     let mut at = 0;
     while at < names.len() {
         let name = texts::scan(names, at);
-        let e = name.end;
-        let clean = name.clean;
-        if names.len() <= e {
-            return Checked::Bad;
-        }
-        if names[e] != b'\n' {
-            return Checked::Bad;
-        }
-        if !names::is_role_name(&names[at..e], clean) {
-            return Checked::Bad;
+        let Some(b'\n') = names.get(name.end) else {
+            return None;
+        };
+        if !names::is_role_name(&names[at..name.end], name.clean) {
+            return None;
         }
         if 32 <= count {
-            return Checked::Bad;
+            return None;
         }
-        set = with_role(s, w, t, set, &names[at..e]);
-        count = count + 1;
-        at = e + 1;
+        set = with_role(s, w, t, set, &names[at..name.end]);
+        count += 1;
+        at = name.end + 1;
     }
-    Checked::Good(Who::Roles(set))
+    Some(Who::Roles(set))
 }
 
-// The caller of a login number and a text of names.
-pub fn caller(s: &[u8], w: &[u32], t: Tally, login: u32, names: &[u8]) -> Checked
+// The caller of a login number and a text of names, or nothing where they are bad.
+pub fn caller(s: &[u8], w: &[u32], t: Tally, login: u32, names: &[u8]) -> Option<Who>
     requires { Holds s.now t w.now }
     ensures { result ≡ check_caller (view_at s.now t w.now) login names.now }
 {
-    if login == 1 {
-        return logged_in(s, w, t, names);
+    match login {
+        0 if names.is_empty() => Some(Who::Nobody),
+        1 => logged_in(s, w, t, names),
+        _ => None,
     }
-    if login != 0 {
-        return Checked::Bad;
-    }
-    if 0 < names.len() {
-        return Checked::Bad;
-    }
-    Checked::Good(Who::Nobody)
 }

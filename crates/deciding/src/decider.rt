@@ -12,7 +12,7 @@ ghost use Rattle.deciding.specs.Deciders.{answer_for};
 
 use crate::answers::Decision;
 use crate::joining;
-use callers::{Checked, Who};
+use callers::Who;
 use decisions::answers;
 use decisions::answers::Answer;
 use entries::tables::Tally;
@@ -89,14 +89,11 @@ pub fn decide_held(
     if !names::is_method_name(method) {
         return refuse(BAD_METHOD, 0, 0);
     }
-    let h = callers::caller(s, w, t, login, names);
-    match h {
-        Checked::Bad => refuse(BAD_CALLER, 0, 0),
-        Checked::Good(who) => {
-            let a = answer_for(s, w, t, path, method, who);
-            tell(answers::number(a))
-        }
-    }
+    let Some(who) = callers::caller(s, w, t, login, names) else {
+        return refuse(BAD_CALLER, 0, 0);
+    };
+    let a = answer_for(s, w, t, path, method, who);
+    tell(answers::number(a))
 }
 
 // What is decided once the listing is read into w.

@@ -8,6 +8,7 @@ use lib.ListN.{length, take, drop, get_or}
 use lib.Seq.{take_all, length-take-le}
 use lib.Dec.{ltb, eqb, eqb-suc-zero, eqb-suc-suc}
 use borrow.Author.Tests.{ltb-true, ltb-false, eq-eqb, ne_eqb, eqb-true, eqb-false, not-false}
+use Rattle.std.specs.Prelude.{Some, None, is_some, Option as Optional}
 use Rattle.text.specs.Texts.{Text, bytes, slash, dot, same, has, starts_with, ends_with, part, run}
 use Rattle.names.specs.Patterns.{PatternKind, exact, prefix, extension, default, unpermitted, is_extension, kind_of}
 use Rattle.text.proofs.Truths.{never, not_so}
@@ -16,7 +17,6 @@ use Rattle.names.proofs.Namings.{starts_long}
 use Rattle.decisions.specs.Matching.{after_last, last_segment, has_extension, is_under, kind_matches}
 use Rattle.matching.specs.Strengths.{Ends, kind_strength, strength, rooted_strength, starred_strength, start_leading, lead, leading}
 use Rattle.matching.specs.declared.Leading.{Leading}
-use Rattle.matching.specs.declared.Ending.{Ending}
 use Rattle.matching.proofs.Strengths.{lead_past, lead_takes}
 use Rattle.text.proofs.Indices.{run_step}
 
@@ -77,27 +77,37 @@ unfolding same
 empty_length [] = refl
 empty_length (x ∷ xs) = sym (eqb-suc-zero (length xs))
 
+-- the last segment has no `.`
+pub starred_plain : (t path : Text) (x : Optional ℕ) → Ends path x → x ≡ None → 0 ≡ starred_strength t path
+unfolding starred_strength has_extension
+starred_plain t path x v e =
+    rw (sym v.dotted ∙ ap (λ (y : Optional ℕ). is_some y) e) (sym (none_either (starred t)))
+  where
+    starred : Text → Bool
+    starred t = starts_with (bytes "*.") t && is_extension (drop 2 t)
+
+    none_either : (b : Bool) → ◌≡◌ {A = ℕ} (cond b 0 0) 0
+    none_either true = refl
+    none_either false = refl
+
 -- test by test, in the code's order: first whether what follows the path's last `.` is what follows `*.`, then whether that is an extension
-pub starred_is : (t path : Text) (x : Ending) (z : ℕ) → Ends path x → z
-    ≡ cond (not x.some) 0
-    (cond (not (starts_with (bytes "*.") t)) 0
-    (cond (not (same (part x.at (length path) path) (part 2 (length t) t))) 0
-    (cond (is_extension (part 2 (length t) t)) 2 0)))
+pub starred_is : (t path : Text) (x : Optional ℕ) (at z : ℕ) → Ends path x → x ≡ Some at → z
+    ≡ cond (not (starts_with (bytes "*.") t)) 0
+    (cond (same (part at (length path) path) (part 2 (length t) t))
+    (cond (is_extension (part 2 (length t) t)) 2 0) 0)
     → z ≡ starred_strength t path
 unfolding starred_strength has_extension
-starred_is t path x z v e =
+starred_is t path x at z v s e =
     e
-    ∙ rw (from_on 2 t, from_on x.at path, v.dotted, v.behind)
-    (go (has dot (last_segment path)) (starts_with (bytes "*.") t) (same (after_last dot (last_segment path)) (drop 2 t)) (is_extension (drop 2 t)))
+    ∙ rw (from_on 2 t, from_on at path, v.behind at s, sym v.dotted ∙ ap (λ (y : Optional ℕ). is_some y) s)
+    (go (starts_with (bytes "*.") t) (same (after_last dot (last_segment path)) (drop 2 t)) (is_extension (drop 2 t)))
   where
-    go : (a b c d : Bool) → ◌≡◌ {A = ℕ} (cond (not a) 0 (cond (not b) 0 (cond (not c) 0 (cond d 2 0)))) (cond (b && d) (cond (a && c) 2 0) 0)
-    go true true true d = refl
-    go true true false true = refl
-    go true true false false = refl
-    go false true c true = refl
-    go false true c false = refl
-    go true false c d = refl
-    go false false c d = refl
+    go : (b c d : Bool) → ◌≡◌ {A = ℕ} (cond (not b) 0 (cond c (cond d 2 0) 0)) (cond (b && d) (cond c 2 0) 0)
+    go true true true = refl
+    go true true false = refl
+    go true false true = refl
+    go true false false = refl
+    go false c d = refl
 
 -- and of any text
 pub strength_is : (t path : Text) (z : ℕ) → z

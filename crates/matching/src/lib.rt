@@ -63,35 +63,18 @@ pub fn drop_into(out: &mut [u8], path: &[u8]) -> usize
     n
 }
 
-// How a path ends: whether its last segment has a '.', and the offset of what follows the last one, or of the segment where it has none.
-#[derive(Clone, Copy)]
-pub struct Ending {
-    pub some: bool,
-    pub at: usize,
-}
-
-// The ending of a path, sought from its end.
-pub fn ending_of(path: &[u8]) -> Ending
+// How a path ends: the offset of what follows the last '.' of its last segment, or nothing where that has none. It is sought from the end.
+pub fn ending_of(path: &[u8]) -> Option<usize>
     ensures { Ends path.now result }
 {
-    let mut at = path.len();
-    while 0 < at {
-        let b = path[at - 1];
-        if b == b'.' {
-            return Ending { some: true, at: at };
+    for i in (0..path.len()).rev() {
+        match path[i] {
+            b'.' => return Some(i + 1),
+            b'/' => return None,
+            _ => {}
         }
-        if b == b'/' {
-            return Ending {
-                some: false,
-                at: at,
-            };
-        }
-        at -= 1;
     }
-    Ending {
-        some: false,
-        at: at,
-    }
+    None
 }
 
 // Whether the path is p, or starts with p followed by '/'.
@@ -127,23 +110,18 @@ pub fn rooted_strength(t: &[u8], path: &[u8]) -> u32
 }
 
 // How strongly a pattern text that is not empty and does not start with '/' matches the path, whose ending is x.
-pub fn starred_strength(t: &[u8], path: &[u8], x: Ending) -> u32
+pub fn starred_strength(t: &[u8], path: &[u8], x: Option<usize>) -> u32
     requires { Ends path.now x }
     ensures { result ≡ starred_strength t.now path.now }
 {
-    let some = x.some;
-    let at = x.at;
-    if !some {
+    let Some(at) = x else {
         return 0;
-    }
+    };
     if !texts::starts_with(b"*.", t) {
         return 0;
     }
     let e = &t[2..];
-    if !texts::are_same(&path[at..], e) {
-        return 0;
-    }
-    if names::is_extension(e) {
+    if texts::are_same(&path[at..], e) && names::is_extension(e) {
         return 2;
     }
     0
@@ -151,7 +129,7 @@ pub fn starred_strength(t: &[u8], path: &[u8], x: Ending) -> u32
 
 // How strongly a pattern text matches the path, whose ending is x: 0 not at all, 1 as the default, 2 by extension, 3 and more by a
 // prefix, the longer the stronger, 1,000 exactly.
-pub fn strength_of(t: &[u8], path: &[u8], x: Ending) -> u32
+pub fn strength_of(t: &[u8], path: &[u8], x: Option<usize>) -> u32
     requires { (length t.now ≤ 255) × Ends path.now x }
     ensures { result ≡ strength t.now path.now }
 {
@@ -179,25 +157,20 @@ pub struct Leading {
 }
 
 // The choice with one pattern more, for a path whose ending is e.
-pub fn lead_with(x: Leading, p: &[u8], path: &[u8], e: Ending) -> Leading
+pub fn lead_with(x: Leading, p: &[u8], path: &[u8], e: Option<usize>) -> Leading
     requires { (x.seen < 1000) × ((length p.now ≤ 255) × Ends path.now e) }
     ensures { result ≡ lead path.now x p.now }
 {
-    let seen = x.seen;
-    let at = x.at;
-    let most = x.most;
-    let next = seen + 1;
     let strength = strength_of(p, path, e);
-    if most < strength {
+    if x.most < strength {
         return Leading {
-            seen: next,
-            at: seen,
+            seen: x.seen + 1,
+            at: x.seen,
             most: strength,
         };
     }
     Leading {
-        seen: next,
-        at: at,
-        most: most,
+        seen: x.seen + 1,
+        ..x
     }
 }
