@@ -13,13 +13,14 @@ ghost use Rattle.comparing.specs.Tellings.{BothRead, Prepared, IsFiller, IsTrial
 use comparisons::answers;
 use comparisons::answers::Comparison;
 use entries::tables;
+use entries::tables::Tally;
 use fillers::finding;
 use firsts::pairs::Pair;
 use grants::scratch::Counts;
-use listings::answers::{SHORT_TABLE, SMALL_ANSWER, number};
+use listings::answers::{SHORT_TABLE, SMALL_ANSWER};
 use numbers::numbering;
 use reading::reader;
-use reading::reader::Loaded;
+use reading::reader::Refusal;
 use showing::hits;
 use showing::hits::Found;
 use walks::walking;
@@ -94,8 +95,8 @@ pub fn compare_held<'a, 'b>(
 
 // What is compared once both listings are read, old into the first n numbers of w and new into the next n.
 pub fn compare_loaded<'a, 'b>(
-    lo: Loaded,
-    ln: Loaded,
+    lo: Result<Tally, Refusal>,
+    ln: Result<Tally, Refusal>,
     old: &'a [u8],
     new: &'a [u8],
     answer: &mut [u8],
@@ -108,10 +109,10 @@ pub fn compare_loaded<'a, 'b>(
     ensures rest { (drop (4 * n) w.new ≡ drop (4 * n) w.old) × (length w.new ≡ length w.old) }
 {
     match lo {
-        Loaded::Not(f, line) => answers::refuse(number(f), 1, line),
-        Loaded::Whole(to) => match ln {
-            Loaded::Not(f, line) => answers::refuse(number(f), 2, line),
-            Loaded::Whole(tn) => {
+        Err(r) => answers::refuse(u32::from(r.fault), 1, r.line),
+        Ok(to) => match ln {
+            Err(r) => answers::refuse(u32::from(r.fault), 2, r.line),
+            Ok(tn) => {
                 let pair = Pair { old: to, new: tn };
                 compare_held(old, new, pair, answer, w)
             }

@@ -13,11 +13,10 @@ ghost use Rattle.deciding.specs.Deciders.{answer_for};
 use crate::answers::Decision;
 use crate::joining;
 use callers::Who;
-use decisions::answers;
 use decisions::answers::Answer;
 use entries::tables::Tally;
-use listings::answers::{BAD_CALLER, BAD_METHOD, BAD_PATH, SHORT_TABLE, number};
-use reading::reader::Loaded;
+use listings::answers::{BAD_CALLER, BAD_METHOD, BAD_PATH, SHORT_TABLE};
+use reading::reader::Refusal;
 use reading::{held, reader};
 use text::texts;
 
@@ -93,12 +92,12 @@ pub fn decide_held(
         return refuse(BAD_CALLER, 0, 0);
     };
     let a = answer_for(s, w, t, path, method, who);
-    tell(answers::number(a))
+    tell(u32::from(a))
 }
 
 // What is decided once the listing is read into w.
 pub fn decide_loaded(
-    l: Loaded,
+    l: Result<Tally, Refusal>,
     s: &[u8],
     w: &[u32],
     path: &[u8],
@@ -110,8 +109,8 @@ pub fn decide_loaded(
     ensures { result ≡ decide_listing (asked s.now path.now method.now login names.now) (reading_of s.now) }
 {
     match l {
-        Loaded::Not(f, n) => refuse(number(f), 1, n),
-        Loaded::Whole(t) => decide_held(s, w, t, path, method, login, names),
+        Err(r) => refuse(u32::from(r.fault), 1, r.line),
+        Ok(t) => decide_held(s, w, t, path, method, login, names),
     }
 }
 

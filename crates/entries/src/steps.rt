@@ -1,4 +1,4 @@
-// What one record does: it is refused, or the table grows by it. A record is its kind and its field, the bytes of s from a up to e.
+// What one record does: it is refused for the rule that it breaks, or the table grows by it and its counts are handed back. A record is its kind and its field, the bytes of s from a up to e.
 ghost use Rattle.std.specs.Prelude.{◌≡◌};
 ghost use Rattle.text.specs.Texts.{all, part};
 ghost use Rattle.text.specs.Bytes.{is_text};
@@ -12,54 +12,61 @@ use listings::records;
 use listings::records::{Kind, Stage};
 use text::texts;
 
-// What a record comes to: the counts with it, or the rule that it breaks.
-#[derive(Clone, Copy)]
-pub enum Stepped {
-    Next(Tally),
-    Wrong(Fault),
-}
-
 // `role⇥NAME`
-pub fn role(s: &[u8], w: &mut [u32], t: Tally, a: usize, e: usize, clean: bool) -> Stepped
+pub fn role(
+    s: &[u8],
+    w: &mut [u32],
+    t: Tally,
+    a: usize,
+    e: usize,
+    clean: bool,
+) -> Result<Tally, Fault>
     requires { Field s.now t w.old a e × (clean ≡ all is_text (part a e s.now)) }
     ensures { Steps check_role add_role s.now t w.old a e result w.new }
 {
     let n = t.roles;
     if !names::is_role_name(&s[a..e], clean) {
-        return Stepped::Wrong(Fault::BadName);
+        return Err(Fault::BadName);
     }
     if tables::index(s, w, tables::ROLES, n, &s[a..e]) < n {
-        return Stepped::Wrong(Fault::RoleTwice);
+        return Err(Fault::RoleTwice);
     }
     if most(Counted::Roles) <= n {
-        return Stepped::Wrong(Fault::PastMost);
+        return Err(Fault::PastMost);
     }
     tables::put_text(s, w, tables::ROLES + n, a, e);
-    Stepped::Next(t.with_role())
+    Ok(t.with_role())
 }
 
 // `constraint⇥open` and `constraint⇥auth`
-pub fn constraint(s: &[u8], w: &mut [u32], t: Tally, a: usize, e: usize) -> Stepped
+pub fn constraint(s: &[u8], w: &mut [u32], t: Tally, a: usize, e: usize) -> Result<Tally, Fault>
     requires { Field s.now t w.old a e }
     ensures { Steps check_constraint add_constraint s.now t w.old a e result w.new }
 {
     let n = t.constraints;
     if !names::is_constraint_kind(&s[a..e]) {
-        return Stepped::Wrong(Fault::BadName);
+        return Err(Fault::BadName);
     }
     if most(Counted::Constraints) <= n {
-        return Stepped::Wrong(Fault::PastMost);
+        return Err(Fault::PastMost);
     }
     if texts::are_same(&s[a..e], b"open") {
         tables::put_constraint(w, n, 0);
-        return Stepped::Next(t.with_constraint(Stage::AfterOpen));
+        return Ok(t.with_constraint(Stage::AfterOpen));
     }
     tables::put_constraint(w, n, 1);
-    Stepped::Next(t.with_constraint(Stage::AfterAuth))
+    Ok(t.with_constraint(Stage::AfterAuth))
 }
 
 // `allow⇥NAME` and `allow⇥*`
-pub fn allow(s: &[u8], w: &mut [u32], t: Tally, a: usize, e: usize, clean: bool) -> Stepped
+pub fn allow(
+    s: &[u8],
+    w: &mut [u32],
+    t: Tally,
+    a: usize,
+    e: usize,
+    clean: bool,
+) -> Result<Tally, Fault>
     requires { Field s.now t w.old a e × (clean ≡ all is_text (part a e s.now)) }
     ensures { Steps check_allow add_allow s.now t w.old a e result w.new }
 {
@@ -67,40 +74,47 @@ pub fn allow(s: &[u8], w: &mut [u32], t: Tally, a: usize, e: usize, clean: bool)
     let c = t.constraints;
     let declared = t.declared;
     if !names::is_name(&s[a..e], clean) {
-        return Stepped::Wrong(Fault::BadName);
+        return Err(Fault::BadName);
     }
     if names::is_star(&s[a..e]) {
         tables::allow_declared(w, c, declared);
-        return Stepped::Next(t.at(Stage::AfterAllow));
+        return Ok(t.at(Stage::AfterAllow));
     }
     let i = tables::index(s, w, tables::ROLES, n, &s[a..e]);
     if i < n {
         tables::allow_role(w, c, i);
-        return Stepped::Next(t.at(Stage::AfterAllow));
+        return Ok(t.at(Stage::AfterAllow));
     }
     if most(Counted::Roles) <= n {
-        return Stepped::Wrong(Fault::PastMost);
+        return Err(Fault::PastMost);
     }
     tables::put_text(s, w, tables::ROLES + n, a, e);
     tables::allow_role(w, c, n);
-    Stepped::Next(t.with_allowed())
+    Ok(t.with_allowed())
 }
 
 // `collection`
-pub fn collection(s: &[u8], w: &mut [u32], t: Tally, a: usize, e: usize) -> Stepped
+pub fn collection(s: &[u8], w: &mut [u32], t: Tally, a: usize, e: usize) -> Result<Tally, Fault>
     requires { Field s.now t w.old a e }
     ensures { Steps check_collection add_collection s.now t w.old a e result w.new }
 {
     let n = t.collections;
     if most(Counted::Collections) <= n {
-        return Stepped::Wrong(Fault::PastMost);
+        return Err(Fault::PastMost);
     }
     w[tables::COVERS + 1 + n] = 4294967295;
-    Stepped::Next(t.with_collection())
+    Ok(t.with_collection())
 }
 
 // `pattern⇥TEXT`
-pub fn pattern(s: &[u8], w: &mut [u32], t: Tally, a: usize, e: usize, clean: bool) -> Stepped
+pub fn pattern(
+    s: &[u8],
+    w: &mut [u32],
+    t: Tally,
+    a: usize,
+    e: usize,
+    clean: bool,
+) -> Result<Tally, Fault>
     requires { Field s.now t w.old a e × (clean ≡ all is_text (part a e s.now)) }
     ensures { Steps check_pattern add_pattern s.now t w.old a e result w.new }
 {
@@ -108,17 +122,17 @@ pub fn pattern(s: &[u8], w: &mut [u32], t: Tally, a: usize, e: usize, clean: boo
     let c = t.collections;
     let k = t.constraints;
     if !names::is_pattern(&s[a..e], clean) {
-        return Stepped::Wrong(Fault::BadPattern);
+        return Err(Fault::BadPattern);
     }
     if most(Counted::Patterns) <= n {
-        return Stepped::Wrong(Fault::PastMost);
+        return Err(Fault::PastMost);
     }
     tables::put_pattern(w, n, a, e, c, k);
-    Stepped::Next(t.with_pattern())
+    Ok(t.with_pattern())
 }
 
 // `method⇥NAME`
-pub fn method(s: &[u8], w: &mut [u32], t: Tally, a: usize, e: usize) -> Stepped
+pub fn method(s: &[u8], w: &mut [u32], t: Tally, a: usize, e: usize) -> Result<Tally, Fault>
     requires { Field s.now t w.old a e }
     ensures { Steps check_method add_method s.now t w.old a e result w.new }
 {
@@ -128,26 +142,26 @@ pub fn method(s: &[u8], w: &mut [u32], t: Tally, a: usize, e: usize) -> Stepped
     let stage = t.stage;
     let fresh = records::is_first_method(stage);
     if !names::is_method_name(&s[a..e]) {
-        return Stepped::Wrong(Fault::BadName);
+        return Err(Fault::BadName);
     }
     if most(Counted::MethodLines) <= lines {
-        return Stepped::Wrong(Fault::PastMost);
+        return Err(Fault::PastMost);
     }
     let i = tables::index(s, w, tables::METHODS, n, &s[a..e]);
     if i < n {
         tables::cover(w, c, fresh, i);
-        return Stepped::Next(t.with_line(Stage::AfterMethod));
+        return Ok(t.with_line(Stage::AfterMethod));
     }
     if most(Counted::Methods) <= n {
-        return Stepped::Wrong(Fault::PastMost);
+        return Err(Fault::PastMost);
     }
     tables::put_text(s, w, tables::METHODS + n, a, e);
     tables::cover(w, c, fresh, n);
-    Stepped::Next(t.with_method(Stage::AfterMethod))
+    Ok(t.with_method(Stage::AfterMethod))
 }
 
 // `omit⇥NAME`
-pub fn omit(s: &[u8], w: &mut [u32], t: Tally, a: usize, e: usize) -> Stepped
+pub fn omit(s: &[u8], w: &mut [u32], t: Tally, a: usize, e: usize) -> Result<Tally, Fault>
     requires { Field s.now t w.old a e }
     ensures { Steps check_method add_omit s.now t w.old a e result w.new }
 {
@@ -155,22 +169,22 @@ pub fn omit(s: &[u8], w: &mut [u32], t: Tally, a: usize, e: usize) -> Stepped
     let lines = t.lines;
     let c = t.collections;
     if !names::is_method_name(&s[a..e]) {
-        return Stepped::Wrong(Fault::BadName);
+        return Err(Fault::BadName);
     }
     if most(Counted::MethodLines) <= lines {
-        return Stepped::Wrong(Fault::PastMost);
+        return Err(Fault::PastMost);
     }
     let i = tables::index(s, w, tables::METHODS, n, &s[a..e]);
     if i < n {
         tables::uncover(w, c, i);
-        return Stepped::Next(t.with_line(Stage::AfterOmit));
+        return Ok(t.with_line(Stage::AfterOmit));
     }
     if most(Counted::Methods) <= n {
-        return Stepped::Wrong(Fault::PastMost);
+        return Err(Fault::PastMost);
     }
     tables::put_text(s, w, tables::METHODS + n, a, e);
     tables::uncover(w, c, n);
-    Stepped::Next(t.with_method(Stage::AfterOmit))
+    Ok(t.with_method(Stage::AfterOmit))
 }
 
 // A record of kind k that may follow.
@@ -182,7 +196,7 @@ pub fn field(
     a: usize,
     e: usize,
     clean: bool,
-) -> Stepped
+) -> Result<Tally, Fault>
     requires { Field s.now t w.old a e × (clean ≡ all is_text (part a e s.now)) }
     ensures { Steps (field_check k) (field_add k) s.now t w.old a e result w.new }
 {
@@ -194,7 +208,7 @@ pub fn field(
         Kind::Pattern => pattern(s, w, t, a, e, clean),
         Kind::Method => method(s, w, t, a, e),
         Kind::Omit => omit(s, w, t, a, e),
-        Kind::End => Stepped::Next(t.at(Stage::AfterEnd)),
+        Kind::End => Ok(t.at(Stage::AfterEnd)),
     }
 }
 
@@ -207,13 +221,13 @@ pub fn step(
     a: usize,
     e: usize,
     clean: bool,
-) -> Stepped
+) -> Result<Tally, Fault>
     requires { Field s.now t w.old a e × (clean ≡ all is_text (part a e s.now)) }
     ensures { StepOutcome s.now (step_from (tables_at s.now t w.old) (record_with k (part a e s.now))) result w.new }
 {
     let stage = t.stage;
     if !records::may_follow(stage, k) {
-        return Stepped::Wrong(Fault::WrongPlace);
+        return Err(Fault::WrongPlace);
     }
     field(s, w, t, k, a, e, clean)
 }

@@ -1,30 +1,26 @@
 -- How the code takes a line's head and what may follow what: for the proofs alone, which show that it is what Records says.
-use Rattle.std.specs.Prelude.{ℕ, Bool, true, false, cond}
+use Rattle.std.specs.Prelude.{ℕ, Bool, true, false, cond, Option, Some, None}
 use Rattle.text.specs.Texts.{Text, bytes, starts_with}
 use Rattle.listings.specs.declared.records.Kind.{Kind}
 use Rattle.listings.specs.declared.records.Kind.TheVariants.{Role, Constraint, Allow, Collection, Pattern, Method, Omit, End}
-use Rattle.listings.specs.declared.records.Named.TheVariants.{Known, Unknown}
 use Rattle.listings.specs.declared.records.Headed.{Headed}
 use Rattle.listings.specs.declared.records.Stage.{Stage}
 use Rattle.listings.specs.declared.records.Stage.TheVariants.{AfterFirst, AfterRole, AfterOpen, AfterAuth, AfterAllow, AfterCollection, AfterPattern, AfterMethod, AfterOmit, AfterEnd}
 
 -- ---- how a line begins: with a record's name, and a tab behind it or the line's end
-abbrev pub headed : Kind → ℕ → Headed
-headed k n = record { named = Known k; size = n }
+abbrev pub headed : Kind → ℕ → Option Headed
+headed k n = Some (record { kind = k; size = n })
 
-abbrev pub unheaded : Headed
-unheaded = record { named = Unknown; size = 0 }
-
-unfoldable pub head_of_part : Text → Headed
+unfoldable pub head_of_part : Text → Option Headed
 unfolding starts_with
 head_of_part t =
     cond (starts_with (bytes "role\t") t) (headed Role 5)
     (cond (starts_with (bytes "constraint\t") t) (headed Constraint 11)
     (cond (starts_with (bytes "collection\n") t) (headed Collection 10)
     (cond (starts_with (bytes "end\n") t) (headed End 3)
-    unheaded)))
+    None)))
 
-unfoldable pub head_of : Text → Headed
+unfoldable pub head_of : Text → Option Headed
 unfolding starts_with head_of_part
 head_of t =
     cond (starts_with (bytes "method\t") t) (headed Method 7)

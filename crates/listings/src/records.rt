@@ -1,12 +1,12 @@
 // The records of a listing, and which may follow which.
-ghost use Rattle.std.specs.Prelude.{◌≡◌, ◌<◌};
+ghost use Rattle.std.specs.Prelude.{◌≡◌, ◌<◌, IfSome};
 ghost use Rattle.listings.specs.Records.{stage_number, may_follow};
 ghost use Rattle.listings.specs.Heads.{is_first_method, stages_of, head_of_part, head_of};
 
 use text::texts;
 
 // The kinds of record.
-#[derive(Clone, Copy)]
+#[derive(Clone, Copy, PartialEq, Eq)]
 pub enum Kind {
     Role,
     Constraint,
@@ -18,15 +18,8 @@ pub enum Kind {
     End,
 }
 
-// What a record's name says.
-#[derive(Clone, Copy)]
-pub enum Named {
-    Known(Kind),
-    Unknown,
-}
-
 // Where a record leaves the reader.
-#[derive(Clone, Copy)]
+#[derive(Clone, Copy, PartialEq, Eq)]
 pub enum Stage {
     AfterFirst,
     AfterRole,
@@ -40,77 +33,74 @@ pub enum Stage {
     AfterEnd,
 }
 
-// How a line begins: what its record's name says, and how many bytes stand before its field. A name standing alone has an empty field,
+// How a line begins: the record that it names, and how many bytes stand before its field. A name standing alone has an empty field,
 // which the byte 10 behind it ends.
 #[derive(Clone, Copy)]
 pub struct Headed {
-    pub named: Named,
+    pub kind: Kind,
     pub size: usize,
 }
 
-// The head of a `role`, `constraint`, `collection` or `end` line.
-pub fn head_of_part(t: &[u8]) -> Headed
+// The head of a `role`, `constraint`, `collection` or `end` line; none where its name is unknown.
+pub fn head_of_part(t: &[u8]) -> Option<Headed>
     ensures is { result ≡ head_of_part t.now }
-    ensures small { result.size < 100 }
+    ensures small { IfSome result (λ h. h.size < 100) }
 {
     if texts::starts_with(b"role\t", t) {
-        return Headed {
-            named: Named::Known(Kind::Role),
+        return Some(Headed {
+            kind: Kind::Role,
             size: 5,
-        };
+        });
     }
     if texts::starts_with(b"constraint\t", t) {
-        return Headed {
-            named: Named::Known(Kind::Constraint),
+        return Some(Headed {
+            kind: Kind::Constraint,
             size: 11,
-        };
+        });
     }
     if texts::starts_with(b"collection\n", t) {
-        return Headed {
-            named: Named::Known(Kind::Collection),
+        return Some(Headed {
+            kind: Kind::Collection,
             size: 10,
-        };
+        });
     }
     if texts::starts_with(b"end\n", t) {
-        return Headed {
-            named: Named::Known(Kind::End),
+        return Some(Headed {
+            kind: Kind::End,
             size: 3,
-        };
+        });
     }
-    Headed {
-        named: Named::Unknown,
-        size: 0,
-    }
+    None
 }
 
 // The head of any line, the commonest first.
-pub fn head(t: &[u8]) -> Headed
+pub fn head(t: &[u8]) -> Option<Headed>
     ensures is { result ≡ head_of t.now }
-    ensures small { result.size < 100 }
+    ensures small { IfSome result (λ h. h.size < 100) }
 {
     if texts::starts_with(b"method\t", t) {
-        return Headed {
-            named: Named::Known(Kind::Method),
+        return Some(Headed {
+            kind: Kind::Method,
             size: 7,
-        };
+        });
     }
     if texts::starts_with(b"omit\t", t) {
-        return Headed {
-            named: Named::Known(Kind::Omit),
+        return Some(Headed {
+            kind: Kind::Omit,
             size: 5,
-        };
+        });
     }
     if texts::starts_with(b"pattern\t", t) {
-        return Headed {
-            named: Named::Known(Kind::Pattern),
+        return Some(Headed {
+            kind: Kind::Pattern,
             size: 8,
-        };
+        });
     }
     if texts::starts_with(b"allow\t", t) {
-        return Headed {
-            named: Named::Known(Kind::Allow),
+        return Some(Headed {
+            kind: Kind::Allow,
             size: 6,
-        };
+        });
     }
     head_of_part(t)
 }
