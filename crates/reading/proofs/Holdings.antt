@@ -3,24 +3,26 @@ use mathlib.Core.Path.{◌≡◌, refl, sym, ap, ap₂, ◌∙◌, subst}
 use mathlib.Core.List.{List, [], ◌∷◌, map}
 use Prim.Native.Nat.{ℕ, zero, suc, ◌+◌, ◌*◌, ◌^◌, ◌≤◌, ◌<◌}
 use native.Mathlib.Omega.{arith}
-use lib.ListN.{length, get_or, get_or-map}
+use lib.ListN.{length, drop, get_or, get_or-map}
 use lib.Dec.{T, leb, leb→le}
 use borrow.Author.Tests.{ne_eqb}
 use Rattle.text.specs.Texts.{Text, index_of}
+use Rattle.text.specs.Lines.{lines_of}
 use Rattle.listings.specs.Refusals.{accepted, reading_of}
 use Rattle.listings.specs.Listings.{listing_of, records_of, patterns_of}
-use Rattle.entries.specs.Tables.{Fits, region, text_at, stamped, texts_at, tables_at, tables_of, span_at, spans_at}
-use Rattle.reading.specs.Fillings.{Filling, filled, unfilled, FillFits, FillOutcome, fill_shown, answer_of}
+use Rattle.entries.specs.Tables.{Fits, region, text_at, stamped, texts_at, tables_at, start_tables, tables_of, span_at, spans_at}
+use Rattle.reading.specs.Fillings.{Filling, filled, unfilled, fill_from, FillFits, FillOutcome, fill_shown, answer_of}
 use Rattle.reading.specs.Views.{View, texts, cover_at, access_at, view_of, counted, access_by, view_in, view_at, ProperView}
-use Rattle.reading.specs.Readers.{behind_first, filling_from}
+use Rattle.reading.specs.Readers.{gone_first}
 use Rattle.reading.specs.Holds.{OneOf, Holds, HoldsListing, LoadOutcome}
 use Rattle.entries.specs.declared.tables.Tally.{Tally}
-use Rattle.reading.specs.declared.reader.Loaded.{Loaded}
-use Rattle.reading.specs.declared.reader.Loaded.TheVariants.{Whole, Not}
+use Rattle.reading.specs.declared.reader.Reader.{Reader}
+use Rattle.reading.specs.declared.reader.Refusal.{Refusal}
+use Rattle.std.specs.Prelude.{Result, Ok, Err}
 use Rattle.reading.specs.declared.held.Access.TheVariants.{Open, Closed, ByRole}
 use Rattle.entries.proofs.Regions.{region_length, region_at, texts_length, span_none, spans_length}
 use Rattle.reading.proofs.Viewings.{texts_of_lem, roles_of_lem, methods_of, texts_in, cover_in_lem, access_in_lem}
-use Rattle.reading.proofs.Loads.{accepted_sound, filling_read, filling_tables}
+use Rattle.reading.proofs.Loads.{accepted_sound, Begins, begins, begins_text, refused_read, filling_read, filling_tables}
 use Rattle.reading.proofs.Rulings.{Pictures, pictures}
 use Rattle.reading.proofs.Accepted.{accepted_proper, proper_view}
 
@@ -210,19 +212,30 @@ module _ (s : Text) (t : Tally) (w : List ℕ) (a : reading_of s ≡ accepted) (
     view = view_listed;
   }
 
-pub load_read : (s w : List ℕ) (out : Loaded) → FillOutcome s (filling_from s (behind_first s 0)) out w → LoadOutcome s out w
-load_read s w out o = go out o.answer o.fits
-  where
-    read : (f : Filling) → f ≡ filling_from s (behind_first s 0) → answer_of f ≡ reading_of s
-    read f q = ap answer_of q ∙ filling_read s
+-- `load`: its reader o has gone past the first line, or has the refusal
+module _ (d : Reader) (s w : List ℕ) (o : Result Reader Refusal) (is : o ≡ gone_first d s 0) where
+  pub load_refused : (f : Refusal) → o ≡ Err f → LoadOutcome s (Err f) w
+  load_refused f e = record { answer = refused_read d s o is f e; holds = tt }
 
-    go : (x : Loaded) → fill_shown s x w ≡ filling_from s (behind_first s 0) → FillFits s x w → LoadOutcome s x w
-    go (Not f k) q t = record { answer = read (unfilled f k) q; holds = tt }
-    go (Whole u) q t =
-        record {
-          answer = read (filled (tables_at s u w)) q;
-          holds = holds_listing s u w (sym (read (filled (tables_at s u w)) q)) (filling_tables s (tables_at s u w) (sym q)) t;
-        }
+  pub load_read : (r : Reader) (out : Result Tally Refusal) → d.text.now ≡ s → o ≡ Ok r → FillOutcome r.text.now (fill_from start_tables 2 (lines_of (drop r.at r.text.now))) out w → LoadOutcome s out w
+  load_read r out t e f = at_text r.text.now r.at (begins_text d s o is r t e) (ap (λ (x : Reader). x.at) b.is) f
+    where
+      b : Begins d s r
+      b = begins d s o is r e
+
+      read : (x : Filling) → x ≡ fill_from start_tables 2 (lines_of (drop 14 s)) → answer_of x ≡ reading_of s
+      read x q = ap answer_of q ∙ filling_read s b.short b.starts
+
+      go : (x : Result Tally Refusal) → fill_shown s x w ≡ fill_from start_tables 2 (lines_of (drop 14 s)) → FillFits s x w → LoadOutcome s x w
+      go (Err g) q t = record { answer = read (unfilled g.fault g.line) q; holds = tt }
+      go (Ok u) q t =
+          record {
+            answer = read (filled (tables_at s u w)) q;
+            holds = holds_listing s u w (sym (read (filled (tables_at s u w)) q)) (filling_tables s b.short b.starts (tables_at s u w) (sym q)) t;
+          }
+
+      at_text : (u : Text) (n : ℕ) → u ≡ s → n ≡ 14 → FillOutcome u (fill_from start_tables 2 (lines_of (drop n u))) out w → LoadOutcome s out w
+      at_text u n p q g = let k : FillOutcome s (fill_from start_tables 2 (lines_of (drop 14 s))) out w = rw (p, q) at g in go out k.answer k.fits
 
 -- so what is read off a listing's table is what the listing says
 module _ (s : Text) (t : Tally) (w : List ℕ) (H : HoldsListing s t w) where

@@ -21,7 +21,12 @@ cut_by s h a = cond (eqb (get_or s (end_of s a) 0) newline) (Some (record {
   clean = all is_text (part a (end_of s a) s);
 })) None
 
--- the line at an offset of s; none also where it names no record
+-- the line at an offset of s whose head is that; none also where it names no record
+abbrev pub cut_with : Text → ℕ → Option Headed → Option Cut
+cut_with s at None = None
+cut_with s at (Some h) = cut_by s h (at + h.size)
+
+-- the line at an offset of s
 unfoldable pub cut_of : Text → ℕ → Option Cut
 unfolding head_of to_field_end all is_text
-cut_of s at = elim (head_of (drop at s)) [ None ↦ None | Some h ↦ cut_by s h (at + h.size) ]
+cut_of s at = cut_with s at (head_of (drop at s))

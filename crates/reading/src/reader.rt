@@ -102,11 +102,13 @@ pub fn fill_lines(s: &[u8], w: &mut [u32], at: usize) -> Result<Tally, Refusal>
     while c.at < s.len() {
         match line(s, w, t, c) {
             Err(fault) => return Err(c.refusal(fault)),
-            Ok(Lined::Ended(u, d)) => return closed(s, u, d),
-            Ok(Lined::Moved(u, d)) => {
-                t = u;
-                c = d;
-            }
+            Ok(lined) => match lined {
+                Lined::Ended(u, d) => return closed(s, u, d),
+                Lined::Moved(u, d) => {
+                    t = u;
+                    c = d;
+                }
+            },
         }
     }
     Err(c.refusal(Fault::NoEnd))
