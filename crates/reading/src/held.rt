@@ -36,7 +36,7 @@ pub fn cover(s: &[u8], w: &[u32], t: Tally, k: usize) -> u32
     requires { Holds s.now t w.now × (k < length (texts (view_at s.now t w.now))) }
     ensures { result ≡ cover_at (view_at s.now t w.now) k }
 {
-    let c = w[tables::OWNERS + k] as usize;
+    let c = tables::wide(w[tables::OWNERS + k]);
     w[tables::COVERS + c]
 }
 
@@ -45,12 +45,16 @@ pub fn access_of(s: &[u8], w: &[u32], t: Tally, k: usize) -> Access
     requires { Holds s.now t w.now × (k < length (texts (view_at s.now t w.now))) }
     ensures { result ≡ access_at (view_at s.now t w.now) k }
 {
-    let c = w[tables::PARENTS + k] as usize;
-    match w[tables::ACCESSES + c] {
-        0 => Access::Open,
-        1 => Access::Closed,
-        _ => Access::ByRole(u64::from(w[tables::ALLOWS + c])),
+    let c = tables::wide(w[tables::PARENTS + k]);
+    let number = w[tables::ACCESSES + c];
+    if number == 0 {
+        return Access::Open;
     }
+    if number == 1 {
+        return Access::Closed;
+    }
+    let roles = tables::wide_set(w[tables::ALLOWS + c]);
+    Access::ByRole(roles)
 }
 
 // How many roles there are.
@@ -74,7 +78,8 @@ pub fn role_index(s: &[u8], w: &[u32], t: Tally, name: &[u8]) -> usize
     requires { Holds s.now t w.now }
     ensures { result ≡ index_of name.now (view_at s.now t w.now).roles }
 {
-    tables::index(s, w, tables::ROLES, t.roles, name)
+    let n = t.roles;
+    tables::index(s, w, tables::ROLES, n, name)
 }
 
 // How many methods there are.
@@ -98,5 +103,6 @@ pub fn method_index(s: &[u8], w: &[u32], t: Tally, name: &[u8]) -> usize
     requires { Holds s.now t w.now }
     ensures { result ≡ index_of name.now (view_at s.now t w.now).methods }
 {
-    tables::index(s, w, tables::METHODS, t.methods, name)
+    let n = t.methods;
+    tables::index(s, w, tables::METHODS, n, name)
 }

@@ -3,8 +3,8 @@ use borrow.Author.Rules.{rules}
 use Rattle.reading.proofs.Holdings.{near, rule_near, owner_near, rule_cover}
 use Rattle.reading.proofs.held.cover.Goals as goal
 
-pub overflow_add-c : goal.overflow_add-c
-overflow_add-c c = search (rules, near, rule_near)
+pub overflow_add-k : goal.overflow_add-k
+overflow_add-k c = search (rules, near, rule_near)
 
 pub offset_bounds-w-k : goal.offset_bounds-w-k
 offset_bounds-w-k c = search (rules, near, rule_near)
