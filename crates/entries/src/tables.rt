@@ -46,11 +46,11 @@ pub fn wide(x: u32) -> usize
     x as usize
 }
 
-// The same number.
-pub fn of_byte(b: u8) -> u32
-    ensures { result ≡ b }
+// A set of roles is 64 bits wide above this crate.
+pub fn wide_set(x: u32) -> u64
+    ensures { result ≡ x }
 {
-    b as u32
+    x as u64
 }
 
 // The last two bytes of t and its length, as a number's last 16 digits hold them. Names often begin alike, and end in a number.
