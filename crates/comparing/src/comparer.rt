@@ -12,7 +12,6 @@ ghost use Rattle.comparing.specs.Tellings.{BothRead, Prepared, IsFiller, IsTrial
 
 use comparisons::answers;
 use comparisons::answers::Comparison;
-use entries::tables;
 use entries::tables::Tally;
 use fillers::finding;
 use firsts::pairs::Pair;
@@ -22,7 +21,6 @@ use numbers::numbering;
 use reading::reader;
 use reading::reader::Refusal;
 use showing::hits;
-use showing::hits::Found;
 use walks::walking;
 use walks::walking::Hit;
 
@@ -33,7 +31,7 @@ pub fn tell<'a, 'b>(
     w: &'b [u32],
     pair: Pair,
     n: usize,
-    h: Hit,
+    h: Option<Hit>,
     answer: &mut [u8],
 ) -> Comparison
     requires { ((Telling old.now new.now w.now pair × IsTrial (old_view old.now w.now pair) (new_view new.now w.now pair) h) × IsFiller (old_view old.now w.now pair) (new_view new.now w.now pair) n) × (1024 ≤ length answer.old) }
@@ -41,16 +39,8 @@ pub fn tell<'a, 'b>(
     ensures answer { answer.new ≡ answer_for (compared_hit (old_view old.now w.now pair) (new_view new.now w.now pair) h) answer.old }
 {
     match h {
-        Hit::Nothing => answers::tell(writing::put(answer, 0, b"verdict\tno wider\n")),
-        Hit::At(j, e, m, d) => {
-            let found = Found {
-                stem: j,
-                ending: e,
-                method: m,
-                caller: tables::wide(d),
-            };
-            answers::tell(hits::put_wider(old, new, w, pair, n, found, answer))
-        }
+        None => answers::tell(writing::put(answer, 0, b"verdict\tno wider\n")),
+        Some(hit) => answers::tell(hits::put_wider(old, new, w, pair, n, hit, answer)),
     }
 }
 
@@ -86,9 +76,7 @@ pub fn compare_held<'a, 'b>(
     ensures rest { drop 4096 w.new ≡ drop 4096 w.old }
     ensures size { length w.new ≡ length w.old }
 {
-    let to = pair.old;
-    let tn = pair.new;
-    let n = finding::filler_number(old, to, new, tn, w, 1024);
+    let n = finding::filler_number(old, pair.old, new, pair.new, w, 1024);
     let c = numbering::number(old, new, w, pair);
     compare_numbers(old, new, w, pair, n, c, answer)
 }

@@ -1,10 +1,10 @@
 -- The rosters of all extensions together. For the proofs alone.
-use Rattle.std.specs.Prelude.{ℕ, ◌+◌, ◌<◌, ◌≤◌, ◌≡◌, cond, List, length, get_or}
+use Rattle.std.specs.Prelude.{ℕ, ◌+◌, ◌<◌, ◌≤◌, ◌≡◌, cond, List, length, get_or, Option}
 use Rattle.std.specs.Int.Bits.{bit_and, bit_or}
 use Rattle.grants.specs.Sides.{listed, roster_in}
 use Rattle.grants.specs.Scratch.{old_side, new_side, pairs_in, best_in_old, best_in_new, sort_at, line_in, is_firm_in}
 use Rattle.grants.specs.Catches.{caught_from}
-use Rattle.grants.specs.declared.judging.Caught.{Caught}
+use Rattle.grants.specs.declared.judging.Catch.{Catch}
 use Rattle.grants.specs.declared.scratch.Counts.{Counts}
 
 -- ---- the rosters where the best line is u in old, v in new
@@ -60,7 +60,7 @@ pub record AtStem (x : List ℕ) (c : Counts) (j : ℕ) (ro rn : List ℕ) : Typ
   pub new_roster_lem : rn ≡ new_roster x c (best_in_new x j)
 
 -- who is caught where all extensions behind stem j are taken together: by a side's own roster where it is firm, else by that of all extensions
-unfoldable pub caught_together : List ℕ → Counts → ℕ → List ℕ → List ℕ → List ℕ → List ℕ → Caught
+unfoldable pub caught_together : List ℕ → Counts → ℕ → List ℕ → List ℕ → List ℕ → List ℕ → Option Catch
 unfolding caught_from
 caught_together x c j ro rn each any =
     caught_from (cond (is_firm_in (best_in_old x j)) ro each) (cond (is_firm_in (best_in_new x j)) rn any) (pairs_in x) c.methods 0
