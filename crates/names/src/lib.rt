@@ -73,6 +73,6 @@ pub fn is_pattern(t: &[u8], clean: bool) -> bool
     requires { clean ≡ all is_text t.now }
     ensures { result ≡ is_pattern t.now }
 {
-    let is_formed = t.len() <= 255 && clean && !texts::ends_with(b" ", t);
+    let is_formed = (..=255).contains(&t.len()) && clean && !texts::ends_with(b" ", t);
     is_formed && !texts::has_byte(b';', t) && is_permitted(t)
 }

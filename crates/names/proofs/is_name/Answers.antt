@@ -9,14 +9,23 @@ pub returns-then-not-starts_with : goal.returns-then-not-starts_with
 unfolding is_name
 returns-then-not-starts_with c =
     elim c.if-clean.branch [
-      | then-clean w ↦ elim c.if-contains.branch [ then-contains v ↦ search (rules, tests) | else-contains v ↦ search (rules, tests) ]
-      | else-clean w ↦ search (rules, tests)
+      then-clean u ↦ elim c.if-contains.branch [
+        then-contains v ↦ search (rules, tests)
+        | else-contains v ↦ search rules
+      ]
+      | else-clean u ↦ search rules
     ]
 
 pub returns-else-not-starts_with : goal.returns-else-not-starts_with
 unfolding is_name
 returns-else-not-starts_with c =
     elim c.if-clean.branch [
-      | then-clean w ↦ elim c.if-contains.branch [ then-contains v ↦ search (rules, tests) | else-contains v ↦ search (rules, tests) ]
-      | else-clean w ↦ elim c.if-contains.branch [ then-contains v ↦ search (rules, tests) | else-contains v ↦ search (rules, tests) ]
+      then-clean u ↦ elim c.if-contains.branch [
+        then-contains v ↦ search (rules, tests)
+        | else-contains v ↦ search (rules, tests)
+      ]
+      | else-clean u ↦ elim c.if-contains.branch [
+        then-contains v ↦ search (rules, tests)
+        | else-contains v ↦ search (rules, tests)
+      ]
     ]
