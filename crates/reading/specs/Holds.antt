@@ -5,7 +5,7 @@ use Rattle.text.specs.Texts.{Text}
 use Rattle.listings.specs.Refusals.{Reading, accepted, refusal, reading_of}
 use Rattle.listings.specs.Listings.{listing_of}
 use Rattle.entries.specs.Tables.{Fits, owners_at, parents_at}
-use Rattle.reading.specs.Views.{ProperView, view_of, view_at}
+use Rattle.reading.specs.Views.{View, ProperView, view_of, view_at}
 use Rattle.entries.specs.declared.tables.Tally.{Tally}
 use Rattle.reading.specs.declared.reader.Refusal.{Refusal}
 
@@ -30,6 +30,12 @@ pub record HoldsListing (s : Text) (t : Tally) (w : List ℕ) : Type 0 where
   pub accepts : reading_of s ≡ accepted
   pub holds : Holds s t w
   pub view : view_at s t w ≡ view_of (listing_of s)
+
+-- v is the view of an accepted listing, as a value
+pub record ListingHeld (s : Text) (v : View) : Type 0 where
+  pub accepts : reading_of s ≡ accepted
+  pub proper : ProperView v
+  pub view : v ≡ view_of (listing_of s)
 
 abbrev pub LoadHolds : Text → Result Tally Refusal → List ℕ → Type 0
 LoadHolds s (Ok t) w = HoldsListing s t w
