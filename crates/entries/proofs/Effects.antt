@@ -1,6 +1,7 @@
 -- What each step comes to, return by return: the refusals, and the tables that have grown. A law's premises are what the code knows there:
 -- the results of its calls, the tests that it has made, and the counts and the table that it hands back.
 use mathlib.Core.Path.{◌≡◌, refl, sym, ap, ◌∙◌}
+use mathlib.Core.Logic.{◌⊎◌, inl, inr}
 use mathlib.Core.Bool.{Bool, true, false, not, cond}
 use mathlib.Core.List.{List}
 use mathlib.Core.Option.{Option, none, some}
@@ -16,12 +17,13 @@ use Rattle.names.specs.Names.{is_star, made_of, is_name, is_role_name, is_method
 use Rattle.listings.specs.Records.{may_follow}
 use Rattle.entries.specs.Sets.{with_member, without_member, lowest}
 use Rattle.listings.specs.Heads.{is_first_method}
-use Rattle.entries.specs.Tables.{Tables, packed, Fits, Field, StepOutcome, Steps, stepped_by, next, tables_at, region, texts_at, check_role, check_constraint, check_allow, check_collection, check_pattern, check_method, add_role, add_constraint, add_allow, add_collection, add_pattern, add_method, add_omit, field_check, field_add, check_record, step_from, record_with, spanned}
+use Rattle.entries.specs.Tables.{Tables, packed, Fits, Field, StepOutcome, Steps, stepped_by, next, tables_at, region, texts_at, check_role, check_constraint, check_allow, check_collection, check_pattern, check_method, add_role, add_constraint, add_allow, add_collection, add_pattern, add_method, add_omit, add_line, marked, stage_behind, field_check, field_add, check_record, step_from, record_with, spanned}
 use Rattle.entries.specs.Tallies.{tally_at, tally_role, tally_constraint, tally_allowed, tally_collection, tally_pattern, tally_line, tally_method}
 use Rattle.listings.specs.declared.answers.Fault.{Fault}
 use Rattle.listings.specs.declared.answers.Fault.TheVariants.{WrongPlace, BadName, BadPattern, RoleTwice, PastMost}
 use Rattle.listings.specs.declared.records.Kind.{Kind}
 use Rattle.listings.specs.declared.records.Kind.TheVariants.{Role, Constraint, Allow, Collection, Pattern, Method, Omit, End}
+use Rattle.listings.specs.declared.records.Stage.{Stage}
 use Rattle.listings.specs.declared.records.Stage.TheVariants.{AfterOpen, AfterAuth, AfterAllow, AfterMethod, AfterOmit, AfterEnd}
 use Rattle.entries.specs.declared.tables.Tally.{Tally}
 use Rattle.std.specs.Prelude.{Result, Ok, Err}
@@ -231,36 +233,29 @@ module _ (s : Text) (t : Tally) (w : List ℕ) (a e : ℕ) (d : Field s t w a e)
       unfolding tables_at
       new_room k h = rw (← good, y, lt-leb _ _ few_lines, G.count_methods s t w d.fits, ← q, le-ltb _ _ k, lt-leb _ _ h)
 
-      module _ (r : Tally) (left : List ℕ) (fresh : Bool) (first : fresh ≡ is_first_method t.stage) where
-        pub method_known : left ≡ set w (448 + t.collections) (with_member (cond fresh 0 (get_or w (448 + t.collections) 0)) i)
-            → r ≡ tally_line t AfterMethod → i < t.methods → Steps check_method add_method s t w a e (Ok r) left
-        method_known l m h =
-            rw l (taken check_method add_method s t w a e _ r (tally_line t AfterMethod) (known_room h) m
-            (G.known_method_grown s t w d.fits (part a e s) i q fresh first few_lines h) (kept w (simp length-set) (omega (arith, few_lines))))
-
-        pub method_new : (v : List ℕ) (many : ℕ) → many ≡ 31 → v ≡ set w (32 + t.methods) (packed s a e)
-            → left ≡ set v (448 + t.collections) (with_member (cond fresh 0 (get_or v (448 + t.collections) 0)) t.methods)
-            → r ≡ tally_method t AfterMethod → t.methods ≤ i → t.methods < many → Steps check_method add_method s t w a e (Ok r) left
-        method_new v many x z l m k f =
-            let h : t.methods < 31 = omega (arith, x) in
-            rw l (taken check_method add_method s t w a e _ r (tally_method t AfterMethod) (new_room k h) m
-            (G.new_method_grown s t w d.fits a e d.from d.to (method_name_short s a e d.to b good y) i few_lines q k h v z fresh first)
-            (kept w (rw z (simp length-set)) (omega (arith, few_lines))))
-
       module _ (r : Tally) (left : List ℕ) where
-        pub omit_known : left ≡ set w (448 + t.collections) (without_member (get_or w (448 + t.collections) 0) i)
-            → r ≡ tally_line t AfterOmit → i < t.methods → Steps check_method add_omit s t w a e (Ok r) left
-        omit_known l m h =
-            rw l (taken check_method add_omit s t w a e _ r (tally_line t AfterOmit) (known_room h) m
+        pub line_known : (omits : Bool) (stage : Stage) → stage ≡ stage_behind omits
+            → left ≡ set w (448 + t.collections) (marked omits (is_first_method t.stage) (get_or w (448 + t.collections) 0) i)
+            → r ≡ tally_line t stage → i < t.methods → Steps check_method (add_line omits) s t w a e (Ok r) left
+        line_known true stage z l m h =
+            rw l (taken check_method add_omit s t w a e _ r (tally_line t AfterOmit) (known_room h) (m ∙ ap (tally_line t) z)
             (G.known_omit_grown s t w d.fits (part a e s) i q few_lines h) (kept w (simp length-set) (omega (arith, few_lines))))
+        line_known false stage z l m h =
+            rw l (taken check_method add_method s t w a e _ r (tally_line t AfterMethod) (known_room h) (m ∙ ap (tally_line t) z)
+            (G.known_method_grown s t w d.fits (part a e s) i q (is_first_method t.stage) refl few_lines h) (kept w (simp length-set) (omega (arith, few_lines))))
 
-        pub omit_new : (v : List ℕ) (many : ℕ) → many ≡ 31 → v ≡ set w (32 + t.methods) (packed s a e)
-            → left ≡ set v (448 + t.collections) (without_member (get_or v (448 + t.collections) 0) t.methods)
-            → r ≡ tally_method t AfterOmit → t.methods ≤ i → t.methods < many → Steps check_method add_omit s t w a e (Ok r) left
-        omit_new v many x z l m k f =
+        pub line_new : (omits : Bool) (stage : Stage) (v : List ℕ) (many : ℕ) → stage ≡ stage_behind omits → many ≡ 31 → v ≡ set w (32 + t.methods) (packed s a e)
+            → left ≡ set v (448 + t.collections) (marked omits (is_first_method t.stage) (get_or v (448 + t.collections) 0) t.methods)
+            → r ≡ tally_method t stage → t.methods ≤ i → t.methods < many → Steps check_method (add_line omits) s t w a e (Ok r) left
+        line_new true stage v many y' x z l m k f =
             let h : t.methods < 31 = omega (arith, x) in
-            rw l (taken check_method add_omit s t w a e _ r (tally_method t AfterOmit) (new_room k h) m
+            rw l (taken check_method add_omit s t w a e _ r (tally_method t AfterOmit) (new_room k h) (m ∙ ap (tally_method t) y')
             (G.new_omit_grown s t w d.fits a e d.from d.to (method_name_short s a e d.to b good y) i few_lines q k h v z)
+            (kept w (rw z (simp length-set)) (omega (arith, few_lines))))
+        line_new false stage v many y' x z l m k f =
+            let h : t.methods < 31 = omega (arith, x) in
+            rw l (taken check_method add_method s t w a e _ r (tally_method t AfterMethod) (new_room k h) (m ∙ ap (tally_method t) y')
+            (G.new_method_grown s t w d.fits a e d.from d.to (method_name_short s a e d.to b good y) i few_lines q k h v z (is_first_method t.stage) refl)
             (kept w (rw z (simp length-set)) (omega (arith, few_lines))))
 
 -- ---- by the kind of record
@@ -285,13 +280,11 @@ module _ (s : Text) (t : Tally) (w : List ℕ) (a e : ℕ) (k : Kind) (r : Resul
   unfolding field_check field_add
   field_pattern q h = rw q h
 
-  pub field_method : k ≡ Method → Steps check_method add_method s t w a e r left → Steps (field_check k) (field_add k) s t w a e r left
+  pub field_line : (omits : Bool) → (k ≡ Method) ⊎ (k ≡ Omit) → (k ≡ Method → omits ≡ false) → (k ≡ Omit → omits ≡ true)
+      → Steps check_method (add_line omits) s t w a e r left → Steps (field_check k) (field_add k) s t w a e r left
   unfolding field_check field_add
-  field_method q h = rw q h
-
-  pub field_omit : k ≡ Omit → Steps check_method add_omit s t w a e r left → Steps (field_check k) (field_add k) s t w a e r left
-  unfolding field_check field_add
-  field_omit q h = rw q h
+  field_line omits (inl q) m o h = let h' = rw (m q) at h in rw q h'
+  field_line omits (inr q) m o h = let h' = rw (o q) at h in rw q h'
 
 pub field_end : (s : Text) (t r : Tally) (w : List ℕ) (a e : ℕ) (k : Kind) → Field s t w a e → k ≡ End → r ≡ tally_at t AfterEnd
     → Steps (field_check k) (field_add k) s t w a e (Ok r) w

@@ -1,5 +1,5 @@
 -- The work table: what stands in it as lists, what a record does to them, and the numbers that hold them.
-use Rattle.std.specs.Prelude.{ℕ, ◌+◌, ◌-◌, ◌*◌, ◌/◌, ◌%◌, ◌≤◌, ◌≡◌, not, cond, List, [], ◌∷◌, ◌++◌, map, length, take, drop, get_or, eqb, ltb, leb, Result, Ok, Err}
+use Rattle.std.specs.Prelude.{ℕ, ◌+◌, ◌-◌, ◌*◌, ◌/◌, ◌%◌, ◌≤◌, ◌≡◌, Bool, true, false, not, cond, List, [], ◌∷◌, ◌++◌, map, length, take, drop, get_or, eqb, ltb, leb, Result, Ok, Err}
 use Rattle.std.proofs.Math.Option.{Option, none, some}
 use Rattle.std.specs.Int.Bits.{bit_or}
 use Rattle.text.specs.Texts.{Text, bytes, same, run, on_last, part, index_of}
@@ -169,6 +169,19 @@ add_omit T m = record {
   allows = T.allows;
   accesses = T.accesses;
 }
+
+-- what `method⇥NAME` adds, or `omit⇥NAME` where the line omits: the set of methods that it leaves, and the stage
+abbrev pub add_line : Bool → Tables → Text → Tables
+add_line true T m = add_omit T m
+add_line false T m = add_method T m
+
+abbrev pub marked : Bool → Bool → ℕ → ℕ → ℕ
+marked true fresh x i = without_member x i
+marked false fresh x i = with_member (cond fresh 0 x) i
+
+abbrev pub stage_behind : Bool → Stage
+stage_behind true = AfterOmit
+stage_behind false = AfterMethod
 
 abbrev pub add_end : Tables → Text → Tables
 add_end T t = record {

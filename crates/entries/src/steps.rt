@@ -1,8 +1,9 @@
 // What one record does: it is refused for the rule that it breaks, or the table grows by it and its counts are handed back. A record is its kind and its field, the bytes of s from a up to e.
-ghost use Rattle.std.specs.Prelude.{◌≡◌};
+ghost use Rattle.std.specs.Prelude.{◌≡◌, ◌+◌, ◌≤◌, ◌<◌, length, set, get_or};
+ghost use Rattle.listings.specs.Heads.{is_first_method};
 ghost use Rattle.text.specs.Texts.{all, part};
 ghost use Rattle.text.specs.Bytes.{is_text};
-ghost use Rattle.entries.specs.Tables.{Field, Steps, StepOutcome, step_from, check_role, check_constraint, check_allow, check_collection, check_pattern, check_method, field_check, add_role, add_constraint, add_allow, add_collection, add_pattern, add_method, add_omit, field_add, tables_at, record_with};
+ghost use Rattle.entries.specs.Tables.{Field, Steps, StepOutcome, step_from, check_role, check_constraint, check_allow, check_collection, check_pattern, check_method, field_check, add_role, add_constraint, add_allow, add_collection, add_pattern, add_line, marked, stage_behind, field_add, tables_at, record_with};
 
 use crate::tables;
 use crate::tables::Tally;
@@ -131,60 +132,60 @@ pub fn pattern(
     Ok(t.with_pattern())
 }
 
-// `method⇥NAME`
-pub fn method(s: &[u8], w: &mut [u32], t: Tally, a: usize, e: usize) -> Result<Tally, Fault>
-    requires { Field s.now t w.old a e }
-    ensures { Steps check_method add_method s.now t w.old a e result w.new }
+// What a line on method i does to its collection: `omit` takes the method out, `method` puts it in.
+fn mark(w: &mut [u32], t: Tally, omits: bool, i: usize)
+    requires { (448 + t.collections < length w.old) × ((t.collections ≤ 128) × (i < 32)) }
+    ensures { w.new ≡ set w.old (448 + t.collections) (marked omits (is_first_method t.stage) (get_or w.old (448 + t.collections) 0) i) }
 {
-    let n = t.methods;
-    let lines = t.lines;
-    let c = t.collections;
-    let stage = t.stage;
-    let fresh = records::is_first_method(stage);
-    if !names::is_method_name(&s[a..e]) {
-        return Err(Fault::BadName);
+    if omits {
+        tables::uncover(w, t.collections, i);
+    } else {
+        tables::cover(w, t.collections, t.stage == Stage::AfterPattern, i);
     }
-    if most(Counted::MethodLines) <= lines {
-        return Err(Fault::PastMost);
-    }
-    let i = tables::index(s, w, tables::METHODS, n, &s[a..e]);
-    if i < n {
-        tables::cover(w, c, fresh, i);
-        return Ok(t.with_line(Stage::AfterMethod));
-    }
-    if most(Counted::Methods) <= n {
-        return Err(Fault::PastMost);
-    }
-    tables::put_text(s, w, tables::METHODS + n, a, e);
-    tables::cover(w, c, fresh, n);
-    Ok(t.with_method(Stage::AfterMethod))
 }
 
-// `omit⇥NAME`
-pub fn omit(s: &[u8], w: &mut [u32], t: Tally, a: usize, e: usize) -> Result<Tally, Fault>
+// Where such a line leaves the reader.
+fn stage_behind(omits: bool) -> Stage
+    ensures { result ≡ stage_behind omits }
+{
+    if omits {
+        Stage::AfterOmit
+    } else {
+        Stage::AfterMethod
+    }
+}
+
+// `method⇥NAME`, or `omit⇥NAME` where the line omits. One function, called at one place: twice in the code it would be slower.
+pub fn method(
+    s: &[u8],
+    w: &mut [u32],
+    t: Tally,
+    a: usize,
+    e: usize,
+    omits: bool,
+) -> Result<Tally, Fault>
     requires { Field s.now t w.old a e }
-    ensures { Steps check_method add_omit s.now t w.old a e result w.new }
+    ensures { Steps check_method (add_line omits) s.now t w.old a e result w.new }
 {
     let n = t.methods;
-    let lines = t.lines;
-    let c = t.collections;
+    let stage = stage_behind(omits);
     if !names::is_method_name(&s[a..e]) {
         return Err(Fault::BadName);
     }
-    if most(Counted::MethodLines) <= lines {
+    if most(Counted::MethodLines) <= t.lines {
         return Err(Fault::PastMost);
     }
     let i = tables::index(s, w, tables::METHODS, n, &s[a..e]);
     if i < n {
-        tables::uncover(w, c, i);
-        return Ok(t.with_line(Stage::AfterOmit));
+        mark(w, t, omits, i);
+        return Ok(t.with_line(stage));
     }
     if most(Counted::Methods) <= n {
         return Err(Fault::PastMost);
     }
     tables::put_text(s, w, tables::METHODS + n, a, e);
-    tables::uncover(w, c, n);
-    Ok(t.with_method(Stage::AfterOmit))
+    mark(w, t, omits, n);
+    Ok(t.with_method(stage))
 }
 
 // A record of kind k that may follow.
@@ -206,8 +207,7 @@ pub fn field(
         Kind::Allow => allow(s, w, t, a, e, clean),
         Kind::Collection => collection(s, w, t, a, e),
         Kind::Pattern => pattern(s, w, t, a, e, clean),
-        Kind::Method => method(s, w, t, a, e),
-        Kind::Omit => omit(s, w, t, a, e),
+        Kind::Method | Kind::Omit => method(s, w, t, a, e, k == Kind::Omit),
         Kind::End => Ok(t.at(Stage::AfterEnd)),
     }
 }
@@ -225,8 +225,7 @@ pub fn step(
     requires { Field s.now t w.old a e × (clean ≡ all is_text (part a e s.now)) }
     ensures { StepOutcome s.now (step_from (tables_at s.now t w.old) (record_with k (part a e s.now))) result w.new }
 {
-    let stage = t.stage;
-    if !records::may_follow(stage, k) {
+    if !records::may_follow(t.stage, k) {
         return Err(Fault::WrongPlace);
     }
     field(s, w, t, k, a, e, clean)
