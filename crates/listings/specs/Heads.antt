@@ -1,4 +1,4 @@
--- How the code takes a line's head and what may follow what: for the proofs alone, which show that it is what Records says.
+-- How the code takes a line's head, and which line is the first of its collection: for the proofs alone.
 use Rattle.std.specs.Prelude.{ℕ, Bool, true, false, cond, Option, Some, None}
 use Rattle.text.specs.Texts.{Text, bytes, starts_with}
 use Rattle.listings.specs.declared.records.Kind.{Kind}
@@ -28,17 +28,6 @@ head_of t =
     (cond (starts_with (bytes "pattern\t") t) (headed Pattern 8)
     (cond (starts_with (bytes "allow\t") t) (headed Allow 6)
     (head_of_part t))))
-
--- the stages that a record of that kind may follow: a binary digit for each, by its number
-abbrev pub stages_of : Kind → ℕ
-stages_of Role = 3
-stages_of Constraint = 451
-stages_of Allow = 24
-stages_of Collection = 476
-stages_of Pattern = 96
-stages_of Method = 192
-stages_of Omit = 320
-stages_of End = 451
 
 -- a `method` line at that stage is the first of its collection, and takes all other methods out
 abbrev pub is_first_method : Stage → Bool

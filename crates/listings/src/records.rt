@@ -1,7 +1,7 @@
 // The records of a listing, and which may follow which.
 ghost use Rattle.std.specs.Prelude.{◌≡◌, ◌<◌, IfSome};
-ghost use Rattle.listings.specs.Records.{stage_number, may_follow};
-ghost use Rattle.listings.specs.Heads.{is_first_method, stages_of, head_of_part, head_of};
+ghost use Rattle.listings.specs.Records.{may_follow};
+ghost use Rattle.listings.specs.Heads.{head_of_part, head_of};
 
 use text::texts;
 
@@ -105,61 +105,33 @@ pub fn head(t: &[u8]) -> Option<Headed>
     head_of_part(t)
 }
 
-// The number of a stage: its digit in a set of stages.
-pub fn stage_number(p: Stage) -> u8
-    ensures { result ≡ stage_number p }
-{
-    match p {
-        Stage::AfterFirst => 0,
-        Stage::AfterRole => 1,
-        Stage::AfterOpen => 2,
-        Stage::AfterAuth => 3,
-        Stage::AfterAllow => 4,
-        Stage::AfterCollection => 5,
-        Stage::AfterPattern => 6,
-        Stage::AfterMethod => 7,
-        Stage::AfterOmit => 8,
-        Stage::AfterEnd => 9,
-    }
-}
-
-// The stages that a record of kind k may follow: a binary digit for each, by its number.
-pub fn stages(k: Kind) -> u32
-    ensures { result ≡ stages_of k }
-{
-    match k {
-        Kind::Role => 3,
-        Kind::Constraint => 451,
-        Kind::Allow => 24,
-        Kind::Collection => 476,
-        Kind::Pattern => 96,
-        Kind::Method => 192,
-        Kind::Omit => 320,
-        Kind::End => 451,
-    }
-}
-
 // Whether a record of kind k may stand at stage p.
+#[tactic(auto, unfolding(crate::specs::Records::may_follow, crate::specs::Records::is_among))]
 pub fn may_follow(p: Stage, k: Kind) -> bool
     ensures { result ≡ may_follow p k }
 {
-    stages(k) >> (stage_number(p) % 32) as u32 & 1 == 1
-}
-
-// Whether a `method` line here would be the first of its collection.
-pub fn is_first_method(p: Stage) -> bool
-    ensures { result ≡ is_first_method p }
-{
-    match p {
-        Stage::AfterFirst => false,
-        Stage::AfterRole => false,
-        Stage::AfterOpen => false,
-        Stage::AfterAuth => false,
-        Stage::AfterAllow => false,
-        Stage::AfterCollection => false,
-        Stage::AfterPattern => true,
-        Stage::AfterMethod => false,
-        Stage::AfterOmit => false,
-        Stage::AfterEnd => false,
+    match k {
+        Kind::Role => matches!(p, Stage::AfterFirst | Stage::AfterRole),
+        Kind::Constraint | Kind::End => matches!(
+            p,
+            Stage::AfterFirst
+                | Stage::AfterRole
+                | Stage::AfterPattern
+                | Stage::AfterMethod
+                | Stage::AfterOmit
+        ),
+        Kind::Allow => matches!(p, Stage::AfterAuth | Stage::AfterAllow),
+        Kind::Collection => matches!(
+            p,
+            Stage::AfterOpen
+                | Stage::AfterAuth
+                | Stage::AfterAllow
+                | Stage::AfterPattern
+                | Stage::AfterMethod
+                | Stage::AfterOmit
+        ),
+        Kind::Pattern => matches!(p, Stage::AfterCollection | Stage::AfterPattern),
+        Kind::Method => matches!(p, Stage::AfterPattern | Stage::AfterMethod),
+        Kind::Omit => matches!(p, Stage::AfterPattern | Stage::AfterOmit),
     }
 }
