@@ -6,8 +6,13 @@ use Prim.Native.Nat.{ℕ, zero, suc, ◌+◌, ◌-◌, ◌*◌, ◌≤◌, ◌<�
 use native.Mathlib.Numerals.{add-one}
 use native.Mathlib.Omega.{arith}
 use lib.ListN.{length, get_or, take, drop, length-append, take-append-drop, drop_of_length-le}
-use lib.Seq.{take_all, length-take-le, drop-cons}
-use lib.Dec.{eqb, leb}
+use lib.Seq.{take_all, length-take-le, get_or-take, drop-cons}
+use lib.Dec.{eqb, ltb, leb}
+use native.Mathlib.Decide.{dec_lt}
+use Rattle.std.proofs.Common.{Option, Some, None, ◌==◌}
+use Rattle.std.specs.Option.{unwrap_or}
+use Rattle.std.specs.List.{position, position_or_len}
+use Rattle.std.proofs.lemmas.List.Sums.{prefix_len-le-length}
 use borrow.Author.Tests.{lt-ltb, le-ltb, eq-eqb, ne_eqb, le-leb, lt-leb}
 use Rattle.text.specs.Texts.{Text, bytes, slash, same, starts_with, ends_with, index_of, run}
 use Rattle.names.specs.Patterns.{PatternKind, exact, prefix, extension, default, unpermitted, kind_of, is_extension, Shape}
@@ -26,43 +31,41 @@ use Rattle.firsts.proofs.Enterings.{Seeking, seek_start}
 use Rattle.numbers.specs.Stemming.{is_firm_text, Findable, Lacking}
 
 -- ---- the line of a text, by the numbers of the first lines
--- the lines from k on are still to be looked at
-pub record Finding (s : Text) (w fs : List ℕ) (text : Text) (f n k : ℕ) : Type 0 where
-  pub seeking : (t : Tally) → Findable s t w fs text f → n ≡ length (texts (view_at s t w)) → Seeking text (texts (view_at s t w)) n k
+-- a number stands where the text does
+same_place : (t : Text) (f : ℕ) (fs : List ℕ) (vs : List Text) → length fs ≡ length vs → ((k : ℕ) → k < length vs → eqb (get_or fs k 0) f ≡ same (get_or vs k []) t)
+    → position_or_len (λ y. eqb y f) fs ≡ index_of t vs
+unfolding index_of
+same_place t f [] [] z e = refl
+same_place t f [] (v ∷ vs) z e = absurd (omega arith)
+same_place t f (n ∷ fs) [] z e = absurd (omega arith)
+same_place t f (n ∷ fs) (v ∷ vs) z e = go (eqb n f) (same v t) (e 0 (omega arith)) (same_place t f fs vs (omega arith) (λ k h. e (suc k) (omega arith)))
+  where
+    go : (b c : Bool) → b ≡ c → {p i : ℕ} → p ≡ i → cond (not b) (1 + p) 0 ≡ cond c 0 (suc i)
+    go true true q r = refl
+    go true false q r = absurd (never true refl q)
+    go false true q r = absurd (never true refl (sym q))
+    go false false q r = omega (arith, r)
 
-pub find_start : (s : Text) (w fs : List ℕ) (text : Text) (f n : ℕ) → Finding s w fs text f n 0
-find_start s w fs text f n = record { seeking = λ t F e. seek_start text (texts (view_at s t w)) n }
+-- `position` with the number of all where it finds none
+or_all : (p : ℕ → Bool) (fs : List ℕ) → unwrap_or (position p fs) (length fs) ≡ position_or_len p fs
+or_all p fs = go (position_or_len p fs) (length fs) (prefix_len-le-length (λ x. not (p x)) fs) (dec_lt (position_or_len p fs) (length fs))
+  where
+    go : (m n : ℕ) → m ≤ n → Dec (m < n) → unwrap_or (cond (ltb m n) (Some m) None) n ≡ m
+    go m n h (yes l) = rw (lt-ltb m n l)
+    go m n h (no l) = rw (le-ltb m n (omega arith)) (omega arith)
 
-module _ (s : Text) (w fs : List ℕ) (text : Text) (f n k : ℕ) where
-  here : (t : Tally) → Findable s t w fs text f → n ≡ length (texts (view_at s t w)) → k < n
-      → index_of text (drop k (texts (view_at s t w))) ≡ cond (eqb (get_or fs k 0) f) 0 (suc (index_of text (drop (suc k) (texts (view_at s t w)))))
-  unfolding index_of
-  here t F e h = rw (drop-cons (texts (view_at s t w)) k [] (omega arith), F.tells k (omega arith))
+pub told : (t : Text) (f : ℕ) (fs : List ℕ) (vs : List Text) (n : ℕ) → n ≡ length vs → n ≤ length fs → ((k : ℕ) → k < n → eqb (get_or fs k 0) f ≡ same (get_or vs k []) t)
+    → unwrap_or (position (λ y. y == f) (take n fs)) n ≡ index_of t vs
+told t f fs vs n q h e =
+    let z : length (take n fs) ≡ n = length-take-le n fs h in
+    ap (unwrap_or (position (λ y. y == f) (take n fs))) (sym z)
+    ∙ or_all (λ y. y == f) (take n fs)
+    ∙ same_place t f (take n fs) vs (z ∙ q) (λ k l. let i : k < n = omega arith in rw (get_or-take n fs k 0 i) (e k i))
 
-  -- it hasn't the text
-  pub find_further : Finding s w fs text f n k → k < n → (get_or fs k 0 ≡ f → ⊥) → Finding s w fs text f n (k + 1)
-  find_further S h e = record {
-    seeking = λ t F q.
-        let vs : List Text = texts (view_at s t w) in
-        let d : index_of text (drop k vs) ≡ suc (index_of text (drop (suc k) vs)) = here t F q h ∙ rw (ne_eqb (get_or fs k 0) f e) in
-        record { due = rw (add-one k) (omega (arith, (S.seeking t F q).due)); ahead = omega arith };
-  }
-
-  module _ (t : Tally) (F : Findable s t w fs text f) (n-is : n ≡ length (texts (view_at s t w))) where
-    abbrev vs : List Text
-    vs = texts (view_at s t w)
-
-    pub find_there : k < n → k < length fs
-    find_there h = omega (arith, F.room)
-
-    -- it has
-    pub find_found : Finding s w fs text f n k → k < n → get_or fs k 0 ≡ f → k ≡ index_of text vs
-    find_found S h e = let d : index_of text (drop k vs) ≡ 0 = here t F n-is h ∙ rw (eq-eqb (get_or fs k 0) f e) in omega (arith, (S.seeking t F n-is).due)
-
-    -- none is left
-    pub find_none : Finding s w fs text f n k → n ≤ k → k ≡ index_of text vs
-    unfolding index_of
-    find_none S h = let S' = S.seeking t F n-is in let d = rw (drop_of_length-le vs {i = k} (omega arith)) at S'.due in omega (arith, S'.ahead)
+-- so do the numbers of the first lines
+pub line_told : (s : Text) (t : Tally) (w fs : List ℕ) (text : Text) (f n : ℕ) → Findable s t w fs text f → n ≡ length (texts (view_at s t w))
+    → (r : Option ℕ) (k : ℕ) → r ≡ position (λ y. y == f) (take n fs) → k ≡ unwrap_or r n → k ≡ index_of text (texts (view_at s t w))
+line_told s t w fs text f n F e r k p q = q ∙ rw p (told text f fs (texts (view_at s t w)) n e (omega (arith, F.room)) (λ k h. F.tells k (omega arith)))
 
 -- ---- strengths
 -- a kind by the tests of its text

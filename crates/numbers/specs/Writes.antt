@@ -54,6 +54,12 @@ pub record Lent (s : Text) (t : Tally) (from at z : ℕ) (w : List ℕ) : Type 0
   pub clear : 2048 ≤ at
   pub room : at + z ≤ length w
 
+-- it holds a view in the 1,024 numbers from `from` on, and k is one of the view's lines
+pub record LineHeld (s : Text) (t : Tally) (from k : ℕ) (w : List ℕ) : Type 0 where
+  pub held : Holds s t (part from (from + 1024) w)
+  pub room : from + 1024 ≤ length w
+  pub inside : k < length (texts (view_from s t from w))
+
 -- it holds both views, and has room for z numbers from at on, behind them
 pub record BothLent (old new : Text) (pair : Pair) (at z : ℕ) (w : List ℕ) : Type 0 where
   pub both : BothHeld old new w pair

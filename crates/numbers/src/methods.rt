@@ -22,12 +22,10 @@ pub fn pair_new(old: &[u8], new: &[u8], w: &mut [u32], pair: Pair, at: usize)
     ensures { PairsWritten (old_methods old.now w.old pair) (new_methods new.now w.old pair) (new_methods new.now w.old pair) at w.old w.new }
 {
     let n = held::method_count(new, &w[1024..2048], pair.new);
-    let mut i = 0;
-    while i < n {
+    for i in 0..n {
         let name = held::method(new, &w[1024..2048], pair.new, i);
         let a = held::method_index(old, &w[0..1024], pair.old, name);
         put_pair(w, at, i, a, i);
-        i += 1;
     }
 }
 
@@ -40,16 +38,11 @@ pub fn pair_old(old: &[u8], new: &[u8], w: &mut [u32], pair: Pair, at: usize) ->
     let own = held::method_count(new, &w[1024..2048], pair.new);
     let n = held::method_count(old, &w[0..1024], pair.old);
     let mut count = own;
-    let mut j = 0;
-    while j < n {
-        let next = j + 1;
+    for j in 0..n {
         let name = held::method(old, &w[0..1024], pair.old, j);
-        if held::method_index(new, &w[1024..2048], pair.new, name) < own {
-            j = next;
-        } else {
+        if own <= held::method_index(new, &w[1024..2048], pair.new, name) {
             put_pair(w, at, count, j, own);
-            count = count + 1;
-            j = next;
+            count += 1;
         }
     }
     count

@@ -1,5 +1,6 @@
 // How strong a pattern text is at a stem, and the strongest of a view there. No path is written for that: first bytes and last bytes tell.
-ghost use Rattle.std.specs.Prelude.{◌≡◌, true, false, ◌++◌, ◌≤◌, ◌<◌, length};
+ghost use Rattle.std.specs.Prelude.{◌≡◌, ◌==◌, true, false, ◌++◌, ◌≤◌, ◌<◌, length};
+ghost use Rattle.std.specs.List.{position};
 ghost use Rattle.text.specs.Texts.{bytes, same, index_of};
 ghost use Rattle.names.specs.Patterns.{exact, prefix, kind_of};
 ghost use Rattle.reading.specs.Holds.{Holds};
@@ -15,20 +16,20 @@ use matching::{Ending, Leading};
 use reading::held;
 use text::texts;
 
+// Where a number first stands among others.
+pub fn position_of(numbers: &[u32], x: u32) -> Option<usize>
+    ensures { result ≡ position (λ y. y == x) numbers.now }
+{
+    numbers.iter().position(|y| *y == x)
+}
+
 // The line of a text among those of a view, or their number where it is none of them. The numbers of the first lines tell: that of the text is f.
 pub fn line_of(s: &[u8], w: &[u32], t: Tally, firsts: &[u32], text: &[u8], f: u32) -> usize
     requires { Findable s.now t w.now firsts.now text.now f }
     ensures { result ≡ index_of text.now (texts (view_at s.now t w.now)) }
 {
     let n = held::pattern_count(s, w, t);
-    let mut k = 0;
-    while k < n {
-        if firsts[k] == f {
-            return k;
-        }
-        k += 1;
-    }
-    k
+    position_of(&firsts[..n], f).unwrap_or(n)
 }
 
 // Whether the path is p, or starts with p followed by '/': as `matching::is_under`, with the byte behind p before all others, and these many at a time.

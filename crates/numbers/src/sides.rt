@@ -1,18 +1,30 @@
 // The table of a side: what each `pattern` line of a view says, with its roles in the numbers of new's, and how far the next line with
 // the same text is. Covers stand first, then accesses, roles and gaps, 128 of each. The view stands in the 1,024 numbers of the work
 // table from `from` on, new's in those from 1,024 on, and the side is written from `at` on.
-ghost use Rattle.std.specs.Prelude.{◌≡◌, ◌+◌, ◌≤◌, ◌<◌, length};
+ghost use Rattle.std.specs.Prelude.{ℕ, ◌≡◌, ◌+◌, ◌≤◌, ◌<◌, length};
 ghost use Rattle.text.specs.Texts.{part};
+ghost use Rattle.firsts.specs.Keeping.{Kept};
 ghost use Rattle.reading.specs.Holds.{Holds};
 ghost use Rattle.reading.specs.Views.{texts, cover_at, view_at};
 ghost use Rattle.grants.specs.Sides.{access_number, access_roles, gap_at};
 ghost use Rattle.numbers.specs.Gaps.{Gapable, GapsLent};
-ghost use Rattle.numbers.specs.Writes.{LinesWritten, Lent, Mapped, view_from, access_number_at, renumbered_by, roles_by, Plain, SideWritten};
+ghost use Rattle.numbers.specs.Writes.{Wrote, LinesWritten, Lent, LineHeld, Mapped, view_from, access_number_at, renumbered_by, roles_by, Plain, SideWritten};
 
-use entries::tables;
+use crate::searching;
 use entries::tables::Tally;
 use reading::held;
 use reading::held::Access;
+
+// The numbers 0 to n - 1 of a call, one for each line, are written from `at` on. The call reads the work table, of which only what is written here differs.
+pub fn fill_each<F: Fn(&[u32], usize) -> u32>(w: &mut [u32], at: usize, n: usize, number: F)
+    requires room { at + n ≤ length w.old }
+    requires calls { (u : _) (k : ℕ) → k < n → Kept at (at + n) w.old u.now → F.pre number u k }
+    ensures { (f : ℕ → ℕ) → ((u : _) (k r : ℕ) → k < n → Kept at (at + n) w.old u.now → F.post number u k r → r ≡ f k) → Wrote at n f w.old w.new }
+{
+    for k in 0..n {
+        w[at + k] = number(w, k);
+    }
+}
 
 // The covers.
 pub fn fill_covers(s: &[u8], w: &mut [u32], t: Tally, from: usize, at: usize)
@@ -20,12 +32,15 @@ pub fn fill_covers(s: &[u8], w: &mut [u32], t: Tally, from: usize, at: usize)
     ensures { LinesWritten (view_from s.now t from w.old) cover_at at w.old w.new }
 {
     let n = held::pattern_count(s, &w[from..from + 1024], t);
-    let mut k = 0;
-    while k < n {
-        let v = held::cover(s, &w[from..from + 1024], t, k);
-        w[at + k] = v;
-        k += 1;
-    }
+    fill_each(
+        w,
+        at,
+        n,
+        |w, k|
+            requires { LineHeld s.now t from k w.now }
+            ensures { result ≡ cover_at (view_from s.entry.now t from w.now) k }
+        { held::cover(s, &w[from..from + 1024], t, k) },
+    );
 }
 
 // 0 open, 1 closed, 2 by role.
@@ -44,8 +59,7 @@ pub fn roles_of(a: Access) -> u64
     ensures { result ≡ access_roles a }
 {
     match a {
-        Access::Open => 0,
-        Access::Closed => 0,
+        Access::Open | Access::Closed => 0,
         Access::ByRole(x) => x,
     }
 }
@@ -64,12 +78,15 @@ pub fn fill_accesses(s: &[u8], w: &mut [u32], t: Tally, from: usize, at: usize)
     ensures { LinesWritten (view_from s.now t from w.old) access_number_at at w.old w.new }
 {
     let n = held::pattern_count(s, &w[from..from + 1024], t);
-    let mut k = 0;
-    while k < n {
-        let v = access_number_at(s, &w[from..from + 1024], t, k);
-        w[at + k] = v;
-        k += 1;
-    }
+    fill_each(
+        w,
+        at,
+        n,
+        |w, k|
+            requires { LineHeld s.now t from k w.now }
+            ensures { result ≡ access_number_at (view_from s.entry.now t from w.now) k }
+        { access_number_at(s, &w[from..from + 1024], t, k) },
+    );
 }
 
 // The index of each of new's roles among those of the other view; how many there are.
@@ -87,11 +104,9 @@ pub fn fill_map(
     ensures count { result ≡ length (view_at new.now tn wn.now).roles }
 {
     let n = held::role_count(new, wn, tn);
-    let mut i = 0;
-    while i < n {
+    for i in 0..n {
         let name = held::role(new, wn, tn, i);
         map[i] = held::role_index(s, w, t, name) as u32;
-        i += 1;
     }
     n
 }
@@ -102,19 +117,10 @@ pub fn renumber(map: &[u32], n: usize, own: usize, set: u64) -> u32
     ensures { result ≡ renumbered_by map.now n own set }
 {
     let mut out: u32 = 0;
-    let mut i = 0;
-    while i < n {
-        let next = i + 1;
-        let j = tables::wide(map[i]);
-        if j < own {
-            if (set >> (j % 64) as u32) % 2 == 1 {
-                out = out | (1 << (i % 32) as u32);
-                i = next;
-            } else {
-                i = next;
-            }
-        } else {
-            i = next;
+    for i in 0..n {
+        let j = map[i] as usize;
+        if j < own && (set >> (j % 64) as u32) % 2 == 1 {
+            out |= 1 << (i % 32) as u32;
         }
     }
     out
@@ -136,12 +142,15 @@ pub fn fill_roles(s: &[u8], w: &mut [u32], t: Tally, from: usize, map: &[u32], n
     ensures { LinesWritten (view_from s.now t from w.old) (roles_by map.now n) at w.old w.new }
 {
     let count = held::pattern_count(s, &w[from..from + 1024], t);
-    let mut k = 0;
-    while k < count {
-        let v = roles_at(s, &w[from..from + 1024], t, map, n, k);
-        w[at + k] = v;
-        k += 1;
-    }
+    fill_each(
+        w,
+        at,
+        count,
+        |w, k|
+            requires { LineHeld s.now t from k w.now × ((length map.now ≡ 32) × (n ≤ 32)) }
+            ensures { result ≡ roles_by map.entry.now n (view_from s.entry.now t from w.now) k }
+        { roles_at(s, &w[from..from + 1024], t, map, n, k) },
+    );
 }
 
 // How many lines stand between line k and the next with the same text, or follow it where there is none. The numbers of the first lines tell which have one text.
@@ -149,17 +158,8 @@ pub fn gap(s: &[u8], w: &[u32], t: Tally, firsts: &[u32], k: usize) -> usize
     requires { Gapable s.now t w.now firsts.now k }
     ensures { result ≡ gap_at (view_at s.now t w.now) k }
 {
-    let f = firsts[k];
-    let n = held::pattern_count(s, w, t);
-    let from = k + 1;
-    let mut j = from;
-    while j < n {
-        if firsts[j] == f {
-            return j - from;
-        }
-        j += 1;
-    }
-    n - from
+    let behind = &firsts[k + 1..held::pattern_count(s, w, t)];
+    searching::position_of(behind, firsts[k]).unwrap_or(behind.len())
 }
 
 // The gaps; the numbers of the first lines stand from f on.
@@ -168,12 +168,15 @@ pub fn fill_gaps(s: &[u8], w: &mut [u32], t: Tally, from: usize, f: usize, at: u
     ensures { LinesWritten (view_from s.now t from w.old) gap_at at w.old w.new }
 {
     let n = held::pattern_count(s, &w[from..from + 1024], t);
-    let mut k = 0;
-    while k < n {
-        let v = gap(s, &w[from..from + 1024], t, &w[f..f + 128], k);
-        w[at + k] = v as u32;
-        k += 1;
-    }
+    fill_each(
+        w,
+        at,
+        n,
+        |w, k|
+            requires { LineHeld s.now t from k w.now × ((f + 128 ≤ length w.now) × Gapable s.now t (part from (from + 1024) w.now) (part f (f + 128) w.now) k) }
+            ensures { result ≡ gap_at (view_from s.entry.now t from w.now) k }
+        { gap(s, &w[from..from + 1024], t, &w[f..f + 128], k) as u32 },
+    );
 }
 
 // All of the table but the roles.
