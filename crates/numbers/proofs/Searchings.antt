@@ -1,5 +1,5 @@
 -- How strong a pattern text is at a stem, and the strongest of a view: laws in the shape of the code.
-use mathlib.Core.Path.{◌≡◌, refl, sym, ap, fun_ext, ◌∙◌}
+use mathlib.Core.Path.{◌≡◌, refl, sym, ap, ap₂, fun_ext, ◌∙◌}
 use mathlib.Core.Bool.{Bool, true, false, not, cond, ◌&&◌, and-true, and-false, or-false}
 use mathlib.Core.List.{List, [], ◌∷◌, ◌++◌}
 use Prim.Native.Nat.{ℕ, zero, suc, ◌+◌, ◌-◌, ◌*◌, ◌≤◌, ◌<◌}
@@ -13,6 +13,7 @@ use Rattle.std.proofs.Common.{Option, Some, None, ◌==◌}
 use Rattle.std.specs.Option.{unwrap_or}
 use Rattle.std.specs.List.{position, position_or_len}
 use Rattle.std.proofs.lemmas.List.Sums.{prefix_len-le-length}
+use Rattle.std.proofs.lemmas.List.Recursion.{is_position_or_len}
 use borrow.Author.Tests.{lt-ltb, le-ltb, eq-eqb, ne_eqb, le-leb, lt-leb}
 use Rattle.text.specs.Texts.{Text, bytes, slash, same, starts_with, ends_with, index_of, run}
 use Rattle.names.specs.Patterns.{PatternKind, exact, prefix, extension, default, unpermitted, kind_of, is_extension, Shape}
@@ -28,7 +29,7 @@ use Rattle.grants.specs.Scratch.{best_number, below_strength, stem_strength, lea
 use Rattle.reading.specs.Views.{texts, view_at}
 use Rattle.entries.specs.declared.tables.Tally.{Tally}
 use Rattle.firsts.proofs.Enterings.{Seeking, seek_start}
-use Rattle.numbers.specs.Stemming.{is_firm_text, Findable, Lacking}
+use Rattle.numbers.specs.Stemming.{line_among, is_firm_text, Findable, Lacking}
 
 -- ---- the line of a text, by the numbers of the first lines
 -- a number stands where the text does
@@ -62,10 +63,24 @@ told t f fs vs n q h e =
     ∙ or_all (λ y. y == f) (take n fs)
     ∙ same_place t f (take n fs) vs (z ∙ q) (λ k l. let i : k < n = omega arith in rw (get_or-take n fs k 0 i) (e k i))
 
+-- a text is among others by its index
+pub among_by : (t : Text) (us : List Text) → line_among t us ≡ cond (ltb (index_of t us) (length us)) (Some (index_of t us)) None
+unfolding line_among index_of
+among_by t us = ap (λ (i : ℕ). cond (ltb i (length us)) (Some i) None) (sym (is_position_or_len (index_of t) (λ u. same u t) refl (λ u vs. go (same u t) (index_of t vs)) us))
+  where
+    go : (b : Bool) (i : ℕ) → cond b 0 (suc i) ≡ cond b 0 (1 + i)
+    go true i = refl
+    go false i = omega arith
+
 -- so do the numbers of the first lines
 pub line_told : (s : Text) (t : Tally) (w fs : List ℕ) (text : Text) (f n : ℕ) → Findable s t w fs text f → n ≡ length (texts (view_at s t w))
-    → (r : Option ℕ) (k : ℕ) → r ≡ position (λ y. y == f) (take n fs) → k ≡ unwrap_or r n → k ≡ index_of text (texts (view_at s t w))
-line_told s t w fs text f n F e r k p q = q ∙ rw p (told text f fs (texts (view_at s t w)) n e (omega (arith, F.room)) (λ k h. F.tells k (omega arith)))
+    → (r : Option ℕ) → r ≡ position (λ y. y == f) (take n fs) → r ≡ line_among text (texts (view_at s t w))
+line_told s t w fs text f n F e r p =
+    let vs : List Text = texts (view_at s t w) in
+    let z : length (take n fs) ≡ n = length-take-le n fs (omega (arith, F.room)) in
+    let q : position_or_len (λ y. y == f) (take n fs) ≡ index_of text vs =
+    same_place text f (take n fs) vs (z ∙ e) (λ k l. let i : k < n = omega arith in rw (get_or-take n fs k 0 i) (F.tells k l)) in
+    p ∙ ap₂ (λ (i m : ℕ). cond (ltb i m) (Some i) None) q (z ∙ e) ∙ sym (among_by text vs)
 
 -- ---- strengths
 -- a kind by the tests of its text
@@ -133,14 +148,14 @@ module _ (p path : Text) where
     further e = omega arith
 
     -- the byte behind P is no `/`
-    pub above_apart : (get_or path (length p) 0 ≡ 47 → ⊥) → false ≡ is_under p path
-    above_apart n = under_is p path false (rw (ne_eqb (length path) (length p) further, ne_eqb (get_or path (length p) 0) slash n) (sym (and-false (starts_with p path))))
+    pub above_apart : (get_or path (length p) 0 ≡ 47 → ⊥) → eqb (get_or path (length p) 0) 47 ≡ is_under p path
+    above_apart n =
+        ne_eqb (get_or path (length p) 0) slash n
+        ∙ under_is p path false (rw (ne_eqb (length path) (length p) further, ne_eqb (get_or path (length p) 0) slash n) (sym (and-false (starts_with p path))))
 
     -- it is one: the bytes before it tell
-    pub above_start : (r : Bool) → get_or path (length p) 0 ≡ 47 → r ≡ same p (take (length p) path) → r ≡ is_under p path
-    above_start r e q =
-        under_is p path r
-        (starts_is p path r (omega arith) q ∙ rw (ne_eqb (length path) (length p) further, eq-eqb (get_or path (length p) 0) slash e) (sym (and-true (starts_with p path))))
+    pub above_start : (r : Bool) → get_or path (length p) 0 ≡ 47 → r ≡ starts_with p path → r ≡ is_under p path
+    above_start r e q = under_is p path r (q ∙ rw (ne_eqb (length path) (length p) further, eq-eqb (get_or path (length p) 0) slash e) (sym (and-true (starts_with p path))))
 
 -- a text as long as P`/*` that is another has no strength below P
 pub above_none : (p u : Text) → same u (p ++ bytes "/*") ≡ false → length p + 2 ≤ length u → 0 ≡ stem_strength (prefix p) u
@@ -289,13 +304,20 @@ firm_kind (y ∷ ys) =
     rw (ne_eqb (length (y ∷ ys)) 0 (λ e. omega arith))
     (firm_tests (y ∷ ys) (same (y ∷ ys) (bytes "/")) (starts_with (bytes "/") (y ∷ ys)) (ends_with (bytes "/*") (y ∷ ys)) (starts_with (bytes "*.") (y ∷ ys) && is_extension (drop 2 (y ∷ ys))))
 
-pub firm_is : (t : Text) (z : Bool) → z
-    ≡ cond (eqb (length t) 0) true
-    (cond (same t (bytes "/")) false
-    (starts_with (bytes "/") t))
-    → z ≡ is_firm_text t
+firm_by_tests : (t : Text) (a b r : Bool) → a ≡ eqb (length t) 0 → b ≡ same t (bytes "/") → r ≡ starts_with (bytes "/") t → cond a true (cond b false r) ≡ is_firm_text t
 unfolding is_firm_text
-firm_is t z e = e ∙ firm_kind t
+firm_by_tests t a b r p q e = rw (p, q, e) (firm_kind t)
+
+module _ (t : Text) (a : Bool) (a-is : a ≡ eqb (length t) 0) where
+  pub firm_empty : a ≡ true → a ≡ is_firm_text t
+  firm_empty h = h ∙ (rw h at (firm_by_tests t a (same t (bytes "/")) (starts_with (bytes "/") t) a-is refl refl))
+
+  module _ (h : a ≡ false) (b : Bool) (b-is : b ≡ same t (bytes "/")) where
+    pub firm_default : b ≡ true → not b ≡ is_firm_text t
+    firm_default l = ap not l ∙ (rw (h, l) at (firm_by_tests t a b (starts_with (bytes "/") t) a-is b-is refl))
+
+    pub firm_rooted : b ≡ false → (r : Bool) → r ≡ starts_with (bytes "/") t → r ≡ is_firm_text t
+    firm_rooted l r e = rw (h, l) at (firm_by_tests t a b r a-is b-is e)
 
 module _ (t : Text) (firm : is_firm_text t ≡ true) (full : length t ≡ 0 → ⊥) where
   full_text : same t [] ≡ false

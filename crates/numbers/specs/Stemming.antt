@@ -1,5 +1,6 @@
 -- The stems while they are written: by the tests of the code. For the proofs alone.
-use Rattle.std.specs.Prelude.{ℕ, ◌+◌, ◌*◌, ◌≤◌, ◌<◌, ◌≡◌, Bool, true, false, cond, List, [], ◌++◌, length, get_or, set, take, eqb, leb}
+use Rattle.std.specs.Prelude.{ℕ, ◌+◌, ◌*◌, ◌≤◌, ◌<◌, ◌≡◌, Bool, true, false, cond, List, [], ◌++◌, length, get_or, set, take, eqb, leb, Option, Some, None}
+use Rattle.std.specs.List.{position}
 use Rattle.text.specs.Texts.{Text, bytes, same, member, index_of}
 use Rattle.names.specs.Patterns.{default, kind_of, is_permitted}
 use Rattle.reading.specs.Holds.{Holds}
@@ -19,10 +20,16 @@ unfoldable pub is_firm_text : Text → Bool
 unfolding kind_of
 is_firm_text t = leb 3 (kind_strength (kind_of t))
 
--- the best line of the stem of an extension that is line k of n, or of `/`, by that of the root
-unfoldable pub soft_best : Text → ℕ → ℕ → ℕ → ℕ
+-- the best line of the stem of an extension that is line k, or of `/`, by that of the root
+unfoldable pub soft_best : Text → Option ℕ → ℕ → ℕ
 unfolding same
-soft_best t k n root = cond (is_firm_in root) root (cond (leb n k) root (cond (same t (bytes "/")) root (2 * (k + 1))))
+soft_best t None root = root
+soft_best t (Some k) root = cond (is_firm_in root) root (cond (same t (bytes "/")) root (2 * (k + 1)))
+
+-- the first of some texts that is this one
+unfoldable pub line_among : Text → List Text → Option ℕ
+unfolding same
+line_among t us = position (λ u. same u t) us
 
 -- ---- where a text stands
 -- the lines with the text are those with the number f
@@ -37,10 +44,10 @@ pub record Lacking (s : Text) (t : Tally) (w : List ℕ) (text : Text) : Type 0 
   pub lacks : length (texts (view_at s t w)) ≤ index_of text (texts (view_at s t w))
 
 -- the text is line k, and root the best line of `/`filler
-pub record BestSought (s : Text) (t : Tally) (w : List ℕ) (text : Text) (k root : ℕ) : Type 0 where
+pub record BestSought (s : Text) (t : Tally) (w : List ℕ) (text : Text) (k : Option ℕ) (root : ℕ) : Type 0 where
   pub holds : Holds s t w
   pub permitted : is_permitted (kind_of text) ≡ true
-  pub line : k ≡ index_of text (texts (view_at s t w))
+  pub line : k ≡ line_among text (texts (view_at s t w))
   pub root_is : root ≡ stem_best (texts (view_at s t w)) default
 
 -- its first line of both is f; where that is one of new, the numbers of old's lines are still there
@@ -53,8 +60,8 @@ pub record Spottable (old new : Text) (wo wn : List ℕ) (pair : Pair) (fs : Lis
       → get_or fs (length (new_texts new wn pair) + k) 0 ≡ index_of (get_or (old_texts old wo pair) k []) (new_texts new wn pair ++ old_texts old wo pair)
 
 pub record SpotIs (os ns : List Text) (t : Text) (x : Spot) : Type 0 where
-  pub in_old_lem : x.in_old ≡ index_of t os
-  pub in_new_lem : x.in_new ≡ index_of t ns
+  pub in_old_lem : x.in_old ≡ line_among t os
+  pub in_new_lem : x.in_new ≡ line_among t ns
 
 -- ---- stems
 -- the stem of `/`filler

@@ -1,6 +1,6 @@
 // The stems: for each `pattern` line of both views, new's and then old's, and for `/`filler, its sort and its best line in old and in new. Which lines have
 // one text is told by the numbers of their first lines, which stand where the sorts are written.
-ghost use Rattle.std.specs.Prelude.{◌≡◌, true, [], ◌++◌, ◌+◌, ◌*◌, ◌≤◌, ◌<◌, length, get_or};
+ghost use Rattle.std.specs.Prelude.{ℕ, ◌≡◌, true, Some, [], ◌++◌, ◌+◌, ◌*◌, ◌≤◌, ◌<◌, length, get_or};
 ghost use Rattle.names.specs.Patterns.{default, kind_of, is_permitted};
 ghost use Rattle.reading.specs.Holds.{Holds};
 ghost use Rattle.reading.specs.Views.{texts, view_at};
@@ -9,7 +9,6 @@ ghost use Rattle.numbers.specs.Writes.{Both, old_view, new_view, old_texts, new_
 ghost use Rattle.numbers.specs.Stemming.{is_firm_text, soft_best, BestSought, Spottable, SpotIs, Fresh, FreshIs, Stemmable, put_stem, last_stem, StemOf, StemsLent, StemsWritten, FirstsLent, AllStems};
 
 use crate::searching;
-use entries::tables;
 use entries::tables::Tally;
 use firsts::lines;
 use firsts::pairs::Pair;
@@ -18,6 +17,7 @@ use reading::held;
 use text::texts;
 
 // What is written of a stem.
+// Kept: numbers, and no enum, Option or bool: they stand so in the scratch, whose memory is fixed, and `sort_of` and `best_number` of grants' definitions say which.
 #[derive(Clone, Copy)]
 pub struct Stem {
     pub sort: u32,
@@ -25,24 +25,18 @@ pub struct Stem {
     pub in_new: u32,
 }
 
-// Where a text stands in both views: its line, or their number where it is none of them.
+// The line of a text in both views.
 #[derive(Clone, Copy)]
 pub struct Spot {
-    pub in_old: usize,
-    pub in_new: usize,
+    pub in_old: Option<usize>,
+    pub in_new: Option<usize>,
 }
 
 // Whether a text is an exact one or a prefix.
 pub fn is_firm(text: &[u8]) -> bool
     ensures { result ≡ is_firm_text text.now }
 {
-    if text.len() == 0 {
-        return true;
-    }
-    if texts::are_same(text, b"/") {
-        return false;
-    }
-    texts::starts_with(b"/", text)
+    text.is_empty() || !texts::are_same(text, b"/") && texts::starts_with(b"/", text)
 }
 
 // Line k, firm.
@@ -53,36 +47,32 @@ pub fn own_best(k: usize) -> u32
     2 * (k as u32 + 1) + 1
 }
 
-// The best line of the stem of an extension that is line k of n, or of `/`: the root's where that is firm, else the extension's own where there is one.
-pub fn soft_best(text: &[u8], k: usize, n: usize, root: u32) -> u32
-    requires { k ≤ 128 }
-    ensures { result ≡ soft_best text.now k n root }
+// The best line of the stem of an extension that is line k, or of `/`: the root's where that is firm, else the extension's own where there is one.
+pub fn soft_best(text: &[u8], k: Option<usize>, root: u32) -> u32
+    requires { (j : ℕ) → k ≡ Some j → j ≤ 128 }
+    ensures { result ≡ soft_best text.now k root }
 {
-    if root % 2 == 1 {
+    if root % 2 == 1 || texts::are_same(text, b"/") {
         return root;
     }
-    if n <= k {
-        return root;
+    match k {
+        Some(k) => 2 * (k as u32 + 1),
+        None => root,
     }
-    if texts::are_same(text, b"/") {
-        return root;
-    }
-    2 * (k as u32 + 1)
 }
 
 // The best line of the stem of a text in a view where the text is line k, and the best line of `/`filler is `root`.
-pub fn best_at(s: &[u8], w: &[u32], t: Tally, text: &[u8], k: usize, root: u32) -> u32
+pub fn best_at(s: &[u8], w: &[u32], t: Tally, text: &[u8], k: Option<usize>, root: u32) -> u32
     requires { BestSought s.now t w.now text.now k root }
     ensures { result ≡ stem_best (texts (view_at s.now t w.now)) (kind_of text.now) }
 {
-    let n = held::pattern_count(s, w, t);
     if !is_firm(text) {
-        return soft_best(text, k, n, root);
+        return soft_best(text, k, root);
     }
-    if k < n {
-        return own_best(k);
+    match k {
+        Some(k) => own_best(k),
+        None => searching::best_number(searching::strongest_at(s, w, t, text)),
     }
-    searching::best_number(searching::strongest_at(s, w, t, text))
 }
 
 // The best line of `/`filler.
@@ -140,16 +130,16 @@ pub fn spot_of<'a, 'b, 'c, 'd>(
     ensures { SpotIs (old_texts old.now wo.now pair) (new_texts new.now wn.now pair) text.now result }
 {
     let n = held::pattern_count(new, wn, pair.new);
-    let first = tables::wide(f);
+    let first = f as usize;
     if n <= first {
         return Spot {
-            in_old: first - n,
-            in_new: n,
+            in_old: Some(first - n),
+            in_new: None,
         };
     }
     Spot {
         in_old: searching::line_of(old, wo, pair.old, &firsts[n..n + 128], text, f),
-        in_new: first,
+        in_new: Some(first),
     }
 }
 
@@ -167,14 +157,10 @@ pub fn stem_of(
     requires { Fresh old.now new.now wo.now wn.now pair text.now spot last }
     ensures { FreshIs (old_texts old.now wo.now pair) (new_texts new.now wn.now pair) text.now result }
 {
-    let k = spot.in_old;
-    let i = spot.in_new;
-    let root_old = last.in_old;
-    let root_new = last.in_new;
     Stem {
         sort: sort_of(text),
-        in_old: best_at(old, wo, pair.old, text, k, root_old),
-        in_new: best_at(new, wn, pair.new, text, i, root_new),
+        in_old: best_at(old, wo, pair.old, text, spot.in_old, last.in_old),
+        in_new: best_at(new, wn, pair.new, text, spot.in_new, last.in_new),
     }
 }
 
@@ -193,7 +179,7 @@ pub fn stem_at<'a, 'b, 'c, 'd>(
     ensures { StemOf (old_texts old.now wo.now pair) (new_texts new.now wn.now pair) j result }
 {
     let f = firsts[j];
-    if tables::wide(f) < j {
+    if (f as usize) < j {
         return Stem {
             sort: 0,
             in_old: 0,
@@ -229,8 +215,7 @@ pub fn fill_stems<'a, 'b>(
     ensures { StemsWritten (texts (old_view old.now w.old pair)) (texts (new_view new.now w.old pair)) at count w.old w.new }
 {
     let from = at + scratch::SORTS;
-    let mut j = 0;
-    while j < count {
+    for j in 0..count {
         let x = stem_at(
             old,
             new,
@@ -242,7 +227,6 @@ pub fn fill_stems<'a, 'b>(
             j,
         );
         put_stem(w, at, j, x);
-        j += 1;
     }
 }
 
