@@ -3,17 +3,15 @@ ghost use Rattle.std.specs.Prelude.{ℕ, ◌≡◌, ◌==◌, true, false, [], �
 ghost use Rattle.std.specs.List.{position};
 ghost use Rattle.text.specs.Texts.{Text, bytes, same};
 ghost use Rattle.names.specs.Patterns.{exact, prefix, kind_of};
-ghost use Rattle.reading.specs.Holds.{Holds};
-ghost use Rattle.reading.specs.Views.{texts, view_at};
+ghost use Rattle.reading.specs.Views.{texts, ProperView};
 ghost use Rattle.decisions.specs.Matching.{is_under};
 ghost use Rattle.matching.specs.Strengths.{Ends, lead_by};
 ghost use Rattle.grants.specs.Scratch.{stem_strength, leading_by, best_number};
 ghost use Rattle.numbers.specs.Stemming.{line_among, is_firm_text, Findable, Lacking};
 
 use deciding::joining;
-use entries::tables::Tally;
 use matching::Leading;
-use reading::held;
+use reading::held::View;
 use text::texts;
 
 // Where a number first stands among others.
@@ -24,11 +22,11 @@ pub fn position_of(numbers: &[u32], x: u32) -> Option<usize>
 }
 
 // The line of a text among those of a view. The numbers of the first lines tell: that of the text is f.
-pub fn line_of(s: &[u8], w: &[u32], t: Tally, firsts: &[u32], text: &[u8], f: u32) -> Option<usize>
-    requires { Findable s.now t w.now firsts.now text.now f }
-    ensures { result ≡ line_among text.now (texts (view_at s.now t w.now)) }
+pub fn line_of(view: &View, firsts: &[u32], text: &[u8], f: u32) -> Option<usize>
+    requires { Findable view.now firsts.now text.now f }
+    ensures { result ≡ line_among text.now (texts view.now) }
 {
-    position_of(&firsts[..held::pattern_count(s, w, t)], f)
+    position_of(&firsts[..view.pattern_count()], f)
 }
 
 // Whether the path is p, or starts with p followed by '/': as `matching::is_under`, with the byte behind p before all others.
@@ -102,61 +100,60 @@ pub fn lead_by(x: Leading, v: u32) -> Leading
 }
 
 // The strongest of a view by some strength.
-pub fn strongest_by<F: Fn(&[u8]) -> u32>(s: &[u8], w: &[u32], t: Tally, strength: F) -> Leading
-    requires held { Holds s.now t w.now }
-    requires calls { (u : _) (k : ℕ) → k < length (texts (view_at s.now t w.now)) → u.now ≡ get_or (texts (view_at s.now t w.now)) k [] → F.pre strength u }
-    ensures { (g : Text → ℕ) → ((u : _) (k r : ℕ) → k < length (texts (view_at s.now t w.now)) → u.now ≡ get_or (texts (view_at s.now t w.now)) k [] → F.post strength u r → r ≡ g u.now)
-        → result ≡ leading_by g (texts (view_at s.now t w.now)) }
+pub fn strongest_by<F: Fn(&[u8]) -> u32>(view: &View, strength: F) -> Leading
+    requires calls { (u : _) (k : ℕ) → k < length (texts view.now) → u.now ≡ get_or (texts view.now) k [] → F.pre strength u }
+    ensures { (g : Text → ℕ) → ((u : _) (k r : ℕ) → k < length (texts view.now) → u.now ≡ get_or (texts view.now) k [] → F.post strength u r → r ≡ g u.now)
+        → result ≡ leading_by g (texts view.now) }
 {
     let mut x = Leading {
         seen: 0,
         at: 0,
         most: 0,
     };
-    for k in 0..held::pattern_count(s, w, t) {
-        x = lead_by(x, strength(held::pattern(s, w, t, k)));
+    for k in 0..view.pattern_count() {
+        x = lead_by(x, strength(view.pattern(k)));
     }
     x
 }
 
 // The strongest of a view at P`/`filler.
-pub fn strongest_below(s: &[u8], w: &[u32], t: Tally, p: &[u8]) -> Leading
-    requires { Holds s.now t w.now }
-    ensures { result ≡ leading_by (stem_strength (prefix p.now)) (texts (view_at s.now t w.now)) }
+pub fn strongest_below(view: &View, p: &[u8]) -> Leading
+    requires { ProperView view.now }
+    ensures { result ≡ leading_by (stem_strength (prefix p.now)) (texts view.now) }
 {
-    strongest_by(s, w, t, |u| below_strength(p, u))
+    strongest_by(view, |u| below_strength(p, u))
 }
 
 // The same, where the view lacks P`/*`.
-pub fn strongest_above(s: &[u8], w: &[u32], t: Tally, p: &[u8]) -> Leading
-    requires { Lacking s.now t w.now (p.now ++ bytes "/*") }
-    ensures { result ≡ leading_by (stem_strength (prefix p.now)) (texts (view_at s.now t w.now)) }
+pub fn strongest_above(view: &View, p: &[u8]) -> Leading
+    requires { Lacking view.now (p.now ++ bytes "/*") }
+    ensures { result ≡ leading_by (stem_strength (prefix p.now)) (texts view.now) }
 {
-    strongest_by(s, w, t, |u| above_strength(p, u))
+    strongest_by(view, |u| above_strength(p, u))
 }
 
 // The strongest of a view at the path of an exact text that it lacks.
-pub fn strongest_exact(s: &[u8], w: &[u32], t: Tally, path: &[u8]) -> Leading
-    requires { Lacking s.now t w.now path.now × (same path.now (bytes "/") ≡ false) }
-    ensures { result ≡ leading_by (stem_strength (exact path.now)) (texts (view_at s.now t w.now)) }
+pub fn strongest_exact(view: &View, path: &[u8]) -> Leading
+    requires { Lacking view.now path.now × (same path.now (bytes "/") ≡ false) }
+    ensures { result ≡ leading_by (stem_strength (exact path.now)) (texts view.now) }
 {
     let ending = matching::ending_of(path);
-    strongest_by(s, w, t, |u| exact_strength(u, path, ending))
+    strongest_by(view, |u| exact_strength(u, path, ending))
 }
 
 // The strongest of a view at the stem of a text that it lacks, an exact one or a prefix.
-pub fn strongest_at(s: &[u8], w: &[u32], t: Tally, text: &[u8]) -> Leading
-    requires { Lacking s.now t w.now text.now × (is_firm_text text.now ≡ true) }
-    ensures { result ≡ leading_by (stem_strength (kind_of text.now)) (texts (view_at s.now t w.now)) }
+pub fn strongest_at(view: &View, text: &[u8]) -> Leading
+    requires { Lacking view.now text.now × (is_firm_text text.now ≡ true) }
+    ensures { result ≡ leading_by (stem_strength (kind_of text.now)) (texts view.now) }
 {
     if text.is_empty() {
-        return joining::strongest(s, w, t, b"/");
+        return joining::strongest(view, b"/");
     }
     if texts::ends_with(b"/*", text) {
         let n = text.len() - 2;
-        return strongest_above(s, w, t, &text[..n]);
+        return strongest_above(view, &text[..n]);
     }
-    strongest_exact(s, w, t, text)
+    strongest_exact(view, text)
 }
 
 // What is written of the strongest: 0 where nothing matches, else twice its line from 1, and one more where it is firm.
