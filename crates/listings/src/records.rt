@@ -1,7 +1,7 @@
 // The records of a listing, and which may follow which.
 ghost use Rattle.std.specs.Prelude.{◌≡◌, ◌<◌, IfSome};
 ghost use Rattle.listings.specs.Records.{may_follow};
-ghost use Rattle.listings.specs.Heads.{head_of_part, head_of};
+ghost use Rattle.listings.specs.Heads.{headed, head_of};
 
 use text::texts;
 
@@ -41,68 +41,44 @@ pub struct Headed {
     pub size: usize,
 }
 
-// The head of a `role`, `constraint`, `collection` or `end` line; none where its name is unknown.
-pub fn head_of_part(t: &[u8]) -> Option<Headed>
-    ensures is { result ≡ head_of_part t.now }
-    ensures small { IfSome result (λ h. h.size < 100) }
+// The head of a line of that kind, whose field begins behind so many bytes.
+fn of_kind(kind: Kind, size: usize) -> Option<Headed>
+    ensures { result ≡ headed kind size }
 {
-    if texts::starts_with(b"role\t", t) {
-        return Some(Headed {
-            kind: Kind::Role,
-            size: 5,
-        });
-    }
-    if texts::starts_with(b"constraint\t", t) {
-        return Some(Headed {
-            kind: Kind::Constraint,
-            size: 11,
-        });
-    }
-    if texts::starts_with(b"collection\n", t) {
-        return Some(Headed {
-            kind: Kind::Collection,
-            size: 10,
-        });
-    }
-    if texts::starts_with(b"end\n", t) {
-        return Some(Headed {
-            kind: Kind::End,
-            size: 3,
-        });
-    }
-    None
+    Some(Headed { kind, size })
 }
 
-// The head of any line, the commonest first.
+// The head of a line, the commonest first; none where its name is unknown.
+#[tactic(auto, using(text::proofs::Truths::ladder), unfolding(crate::specs::Heads::head_of, crate::specs::Heads::head_of_part))]
 pub fn head(t: &[u8]) -> Option<Headed>
     ensures is { result ≡ head_of t.now }
     ensures small { IfSome result (λ h. h.size < 100) }
 {
     if texts::starts_with(b"method\t", t) {
-        return Some(Headed {
-            kind: Kind::Method,
-            size: 7,
-        });
+        return of_kind(Kind::Method, 7);
     }
     if texts::starts_with(b"omit\t", t) {
-        return Some(Headed {
-            kind: Kind::Omit,
-            size: 5,
-        });
+        return of_kind(Kind::Omit, 5);
     }
     if texts::starts_with(b"pattern\t", t) {
-        return Some(Headed {
-            kind: Kind::Pattern,
-            size: 8,
-        });
+        return of_kind(Kind::Pattern, 8);
     }
     if texts::starts_with(b"allow\t", t) {
-        return Some(Headed {
-            kind: Kind::Allow,
-            size: 6,
-        });
+        return of_kind(Kind::Allow, 6);
     }
-    head_of_part(t)
+    if texts::starts_with(b"role\t", t) {
+        return of_kind(Kind::Role, 5);
+    }
+    if texts::starts_with(b"constraint\t", t) {
+        return of_kind(Kind::Constraint, 11);
+    }
+    if texts::starts_with(b"collection\n", t) {
+        return of_kind(Kind::Collection, 10);
+    }
+    if texts::starts_with(b"end\n", t) {
+        return of_kind(Kind::End, 3);
+    }
+    None
 }
 
 // Whether a record of kind k may stand at stage p.
