@@ -4,6 +4,7 @@ ghost use Rattle.grants.specs.Scratch.{Walkable, sort_at};
 ghost use Rattle.walks.specs.Walks.{caught_behind, behind, stem_hit, walked};
 ghost use Rattle.walks.specs.Gathers.{Gathered, AtStem, caught_together};
 
+use crate::stems::Side;
 use crate::{gathering, stems};
 use grants::judging::Catch;
 use grants::scratch::Counts;
@@ -22,8 +23,8 @@ pub fn catch_behind(x: &[u32], c: Counts, j: usize, i: usize) -> Option<Catch>
     requires { Walkable x.now c × ((j ≤ 256) × (i ≤ 256)) }
     ensures { result ≡ caught_behind x.now c j i }
 {
-    let u = stems::line_behind(stems::in_old(x, j), stems::in_old(x, i));
-    let v = stems::line_behind(stems::in_new(x, j), stems::in_new(x, i));
+    let u = stems::line_behind(stems::best(x, Side::Old, j), stems::best(x, Side::Old, i));
+    let v = stems::line_behind(stems::best(x, Side::New, j), stems::best(x, Side::New, i));
     let old = &x[scratch::OLD_SIDE..scratch::NEW_SIDE];
     let new = &x[scratch::NEW_SIDE..scratch::METHODS];
     let pairs = &x[scratch::METHODS..scratch::IN_OLD];
@@ -63,8 +64,8 @@ pub fn catch_together<'a>(
     requires { (Walkable x.now c × AtStem x.now c j ro.now rn.now) × Gathered x.now c each.now any.now }
     ensures { result ≡ caught_together x.now c j ro.now rn.now each.now any.now }
 {
-    let o = gathering::own_or_all(stems::is_firm(stems::in_old(x, j)), ro, each);
-    let n = gathering::own_or_all(stems::is_firm(stems::in_new(x, j)), rn, any);
+    let o = gathering::own_or_all(stems::is_firm(stems::best(x, Side::Old, j)), ro, each);
+    let n = gathering::own_or_all(stems::is_firm(stems::best(x, Side::New, j)), rn, any);
     judging::judge(o, n, &x[scratch::METHODS..scratch::IN_OLD], c.methods)
 }
 
@@ -110,8 +111,8 @@ pub fn walk_with<'a>(x: &[u32], c: Counts, each: &'a [u64], any: &'a [u64]) -> O
         if stems::is_of_sort(x, j, 0) {
             continue;
         }
-        lo = stems::refresh_old(x, c, lo, j, &mut ro);
-        ln = stems::refresh_new(x, c, ln, j, &mut rn);
+        lo = stems::refresh(x, c, Side::Old, lo, j, &mut ro);
+        ln = stems::refresh(x, c, Side::New, ln, j, &mut rn);
         if let Some(hit) = try_stem(x, c, j, &ro, &rn, each, any) {
             return Some(hit);
         }
