@@ -6,41 +6,40 @@ use Prim.Native.Nat.{ℕ, zero, suc, ◌+◌, ◌-◌, ◌*◌, ◌%◌, ◌^◌
 use native.Mathlib.Nat.{mod-eq_of_lt, one-mul}
 use native.Mathlib.Numerals.{add-one}
 use native.Mathlib.Omega.{arith}
-use lib.ListN.{length, take, drop, get_or, length-drop, drop_of_length-le}
+use native.Mathlib.Decide.{dec_lt}
+use lib.ListN.{length, take, drop, get_or, length-drop, drop_of_length-le, get_or-eq_default}
 use lib.Seq.{get_or-drop, drop-drop}
 use lib.Pow.{pow-lt}
 use lib.Dec.{eqb, ltb}
 use lib.Bits.{bit_or}
-use borrow.Author.Tests.{eqb-true, lt-ltb, le-ltb, le-leb, lt-leb, not-true, not-false}
+use borrow.Author.Tests.{eqb-true, eq-eqb, lt-ltb, le-ltb, le-leb, lt-leb, not-true, not-false}
+use Rattle.std.specs.Prelude.{Option, Some, None}
 use Rattle.text.specs.Texts.{Text, tab, newline, all, part, index_of}
 use Rattle.text.specs.Bytes.{between, is_text}
 use Rattle.text.specs.Lines.{Line, before, lines_of, to_field_end}
 use Rattle.names.specs.Names.{is_name, is_role_name}
-use Rattle.reading.specs.Holds.{Holds}
-use Rattle.reading.specs.Views.{View, view_at}
-use Rattle.entries.specs.declared.tables.Tally.{Tally}
-use Rattle.text.proofs.Truths.{or_right}
+use Rattle.reading.specs.Views.{View, ProperView}
+use Rattle.text.proofs.Truths.{never, or_right}
 use Rattle.callers.specs.RoleSets.{with_role, check_names, check_caller}
-use Rattle.callers.specs.declared.Checked.{Checked}
-use Rattle.callers.specs.declared.Checked.TheVariants.{Bad, Good}
+use Rattle.callers.specs.declared.Who.{Who}
 use Rattle.callers.specs.declared.Who.TheVariants.{Nobody, Roles}
 
 -- ---- a role put in
-module _ (s : Text) (t : Tally) (w : List ℕ) (H : Holds s t w) (x : ℕ) (n : Text) (i k : ℕ)
-    (e : i ≡ index_of n (view_at s t w).roles) (f : k ≡ length (view_at s t w).roles) where
+module _ (v : View) (P : ProperView v) (x : ℕ) (n : Text) (i k : ℕ)
+    (e : i ≡ index_of n v.roles) (f : k ≡ length v.roles) where
   -- a name that is a role: the code's shift is the power
-  pub role_in : i < k → bit_or x (1 * 2 ^ (i % 64) % 18446744073709551616) ≡ with_role (view_at s t w) x n
+  pub role_in : i < k → bit_or x (1 * 2 ^ (i % 64) % 18446744073709551616) ≡ with_role v x n
   unfolding with_role
   role_in h =
-      let j : i < 64 = omega (arith, H.proper.few_roles) in
-      let q : ltb (index_of n (view_at s t w).roles) (length (view_at s t w).roles) ≡ true = rw (← e, ← f) (lt-ltb i k h) in
+      let j : i < 64 = omega (arith, P.few_roles) in
+      let q : ltb (index_of n v.roles) (length v.roles) ≡ true = rw (← e, ← f) (lt-ltb i k h) in
       rw (mod-eq_of_lt j, one-mul (2 ^ i), q, ← e) (ap (bit_or x) (mod-eq_of_lt (pow-lt j)))
 
   -- another name
-  pub role_out : k ≤ i → x ≡ with_role (view_at s t w) x n
+  pub role_out : k ≤ i → x ≡ with_role v x n
   unfolding with_role
   role_out h =
-      let q : ltb (index_of n (view_at s t w).roles) (length (view_at s t w).roles) ≡ false = rw (← e, ← f) (le-ltb i k h) in
+      let q : ltb (index_of n v.roles) (length v.roles) ≡ false = rw (← e, ← f) (le-ltb i k h) in
       rw q
 
 -- ---- the first line of a text, by how its first field ends
@@ -118,7 +117,7 @@ unclean_name : (t : Text) → all is_text t ≡ false → is_role_name t ≡ fal
 unfolding is_role_name is_name
 unclean_name t f = rw (f, and-false (between 1 64 (length t)))
 
-unclean_bad : (view : View) (k x : ℕ) (ls : List Line) → Unclean ls → check_names view k x ls ≡ Bad
+unclean_bad : (view : View) (k x : ℕ) (ls : List Line) → Unclean ls → check_names view k x ls ≡ None
 unfolding check_names
 unclean_bad view k x ls (n, ns, e, f) = rw (e, unclean_name n.bytes f, and-false n.ended)
 
@@ -144,19 +143,30 @@ module _ (s : Text) (at p : ℕ) (q : p ≡ at + to_field_end (drop at s)) (h : 
   tabbed_line : (get_or s p 0 ≡ 10 → ⊥) → Unclean (lines_of (drop at s))
   tabbed_line n = line_tabbed (drop at s) inside (λ e. n (sym stop ∙ e))
 
+-- a byte 10 stands at p, so p is in the text
+ended_at : (s : Text) (p : ℕ) (e : Bool) → e ≡ eqb (get_or s p 0) 10 → not e ≡ false → (p < length s) × (get_or s p 0 ≡ 10)
+ended_at s p e e-is n = go (dec_lt p (length s))
+  where
+    z : get_or s p 0 ≡ 10
+    z = eqb-true (get_or s p 0) 10 (sym e-is ∙ not-false e n)
+
+    go : Dec (p < length s) → (p < length s) × (get_or s p 0 ≡ 10)
+    go (yes h) = (h, z)
+    go (no h) = let d : get_or s p 0 ≡ 0 = get_or-eq_default s 0 (omega arith) in absurd (omega (arith, z))
+
 -- the first name
 pub names_begin : (view : View) (s : Text) → Naming view s 0 0 0
 names_begin view s = record { due = refl }
 
 module _ (view : View) (s : Text) (k x at : ℕ) (v : Naming view s k x at) where
   -- no more names
-  pub names_end : length s ≤ at → Good (Roles x) ≡ check_names view 0 0 (lines_of s)
+  pub names_end : length s ≤ at → Some (Roles x) ≡ check_names view 0 0 (lines_of s)
   unfolding check_names lines_of
   names_end h = sym (v.due ∙ rw (drop_of_length-le s h))
 
   module _ (p : ℕ) (q : p ≡ at + to_field_end (drop at s)) where
     -- the next name lacks its byte 10
-    pub name_open : at < length s → length s ≤ p → Bad ≡ check_names view 0 0 (lines_of s)
+    name_open : at < length s → length s ≤ p → None ≡ check_names view 0 0 (lines_of s)
     unfolding check_names
     name_open h g =
         let n : 0 < length (drop at s) = rw (length-drop at s) (omega arith) in
@@ -164,48 +174,57 @@ module _ (view : View) (s : Text) (k x at : ℕ) (v : Naming view s k x at) wher
         sym (v.due ∙ rw (line_open (drop at s) n m))
 
     -- it has a tab
-    pub name_tabbed : p < length s → (get_or s p 0 ≡ 10 → ⊥) → Bad ≡ check_names view 0 0 (lines_of s)
+    name_tabbed : p < length s → (get_or s p 0 ≡ 10 → ⊥) → None ≡ check_names view 0 0 (lines_of s)
     name_tabbed h n = sym (v.due ∙ unclean_bad view k x (lines_of (drop at s)) (tabbed_line s at p q h n))
 
+    -- no byte 10 ends it
+    pub name_unended : (e : Bool) → at < length s → e ≡ eqb (get_or s p 0) 10 → not e ≡ true → None ≡ check_names view 0 0 (lines_of s)
+    name_unended e h e-is n = go (dec_lt p (length s))
+      where
+        go : Dec (p < length s) → None ≡ check_names view 0 0 (lines_of s)
+        go (yes l) = name_tabbed l (λ z. never e (e-is ∙ eq-eqb (get_or s p 0) 10 z) (not-true e n))
+        go (no l) = name_open h (omega arith)
+
     -- it is no role name
-    pub name_wrong : (r : Bool) → p < length s → get_or s p 0 ≡ 10 → r ≡ is_role_name (part at p s) → not r ≡ true → Bad ≡ check_names view 0 0 (lines_of s)
+    pub name_wrong : (e r : Bool) → e ≡ eqb (get_or s p 0) 10 → not e ≡ false → r ≡ is_role_name (part at p s) → not r ≡ true → None ≡ check_names view 0 0 (lines_of s)
     unfolding check_names
-    name_wrong r h e i n = sym (v.due ∙ rw (ended_line s at p q h e, ← i, not-true r n))
+    name_wrong e r e-is m i n = let z = ended_at s p e e-is m in sym (v.due ∙ rw (ended_line s at p q z.0 z.1, ← i, not-true r n))
 
     -- it is one too many
-    pub name_past : (r : Bool) → p < length s → get_or s p 0 ≡ 10 → r ≡ is_role_name (part at p s) → not r ≡ false → 32 ≤ k → Bad ≡ check_names view 0 0 (lines_of s)
+    pub name_past : (e r : Bool) → e ≡ eqb (get_or s p 0) 10 → not e ≡ false → r ≡ is_role_name (part at p s) → not r ≡ false → 32 ≤ k → None ≡ check_names view 0 0 (lines_of s)
     unfolding check_names
-    name_past r h e i n m = sym (v.due ∙ rw (ended_line s at p q h e, ← i, not-false r n, le-leb 32 k m))
+    name_past e r e-is o i n m = let z = ended_at s p e e-is o in sym (v.due ∙ rw (ended_line s at p q z.0 z.1, ← i, not-false r n, le-leb 32 k m))
 
 -- it is read, and its role put in; the result that says that it is a role name comes first, for a search to be told of it
-pub name_read : (r : Bool) (view : View) (s : Text) (k x y at p : ℕ) → Naming view s k x at → p ≡ at + to_field_end (drop at s) → p < length s → get_or s p 0 ≡ 10
+pub name_read : (e r : Bool) (view : View) (s : Text) (k x y at p : ℕ) → Naming view s k x at → p ≡ at + to_field_end (drop at s) → e ≡ eqb (get_or s p 0) 10 → not e ≡ false
     → r ≡ is_role_name (part at p s) → not r ≡ false → k < 32 → y ≡ with_role view x (part at p s) → Naming view s (k + 1) y (p + 1)
 unfolding check_names
-name_read r view s k x y at p v q h e i n m f =
-    record { due = v.due ∙ rw (ended_line s at p q h e, ← i, not-false r n, lt-leb 32 k m, f, add-one k) }
+name_read e r view s k x y at p v q e-is o i n m f =
+    let z = ended_at s p e e-is o in
+    record { due = v.due ∙ rw (ended_line s at p q z.0 z.1, ← i, not-false r n, lt-leb 32 k m, f, add-one k) }
 
 -- ---- the caller of a login number
 module _ (view : View) (t : Text) where
   -- logged in
-  pub login_one : (login : ℕ) (r : Checked) → login ≡ 1 → r ≡ check_names view 0 0 (lines_of t) → r ≡ check_caller view login t
+  pub login_one : (login : ℕ) (r : Option Who) → login ≡ 1 → r ≡ check_names view 0 0 (lines_of t) → r ≡ check_caller view login t
   unfolding check_caller
   login_one login r e f = rw e f
 
   -- a number that says nothing
-  pub login_other : (login : ℕ) → (login ≡ 1 → ⊥) → (login ≡ 0 → ⊥) → Bad ≡ check_caller view login t
+  pub login_other : (login : ℕ) → (login ≡ 1 → ⊥) → (login ≡ 0 → ⊥) → None ≡ check_caller view login t
   unfolding check_caller
   login_other zero n m = absurd (m refl)
   login_other (suc zero) n m = absurd (n refl)
   login_other (suc (suc k)) n m = refl
 
 -- not logged in, with names
-pub login_named : (view : View) (t : Text) (login : ℕ) → login ≡ 0 → 0 < length t → Bad ≡ check_caller view login t
+pub login_named : (view : View) (t : Text) (login : ℕ) → login ≡ 0 → 0 < length t → None ≡ check_caller view login t
 unfolding check_caller
 login_named view [] login e h = absurd (omega arith)
 login_named view (x ∷ xs) login e h = rw e
 
 -- not logged in
-pub login_none : (view : View) (t : Text) (login : ℕ) → login ≡ 0 → length t ≤ 0 → Good Nobody ≡ check_caller view login t
+pub login_none : (view : View) (t : Text) (login : ℕ) → login ≡ 0 → length t ≤ 0 → Some Nobody ≡ check_caller view login t
 unfolding check_caller
 login_none view [] login e h = rw e
 login_none view (x ∷ xs) login e h = absurd (omega arith)

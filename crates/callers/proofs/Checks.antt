@@ -12,6 +12,7 @@ use lib.ListN.{length, get_or}
 use lib.Dec.{eqb, leb, ltb}
 use lib.Bits.{bit_and}
 use borrow.Author.Tests.{ltb-true, lt-ltb, le-ltb, le-leb, lt-leb, eq-eqb, ne_eqb}
+use Rattle.std.specs.Prelude.{Some, None, Option as Optional}
 use Rattle.text.specs.Texts.{Text, same, member, index_of, Once}
 use Rattle.text.specs.Lines.{Line, lines_of}
 use Rattle.entries.specs.Sets.{set_of, digit}
@@ -25,8 +26,6 @@ use Rattle.decisions.specs.Requests.{Caller, nobody, logged_in, is_ended_name, a
 use Rattle.decisions.specs.Combining.{any_of}
 use Rattle.decisions.proofs.Anys.{any_plain}
 use Rattle.callers.specs.RoleSets.{role_set, with_role, check_names, check_caller}
-use Rattle.callers.specs.declared.Checked.{Checked}
-use Rattle.callers.specs.declared.Checked.TheVariants.{Bad, Good}
 use Rattle.callers.specs.declared.Who.{Who}
 use Rattle.callers.specs.declared.Who.TheVariants.{Nobody, Roles}
 
@@ -35,9 +34,9 @@ abbrev pub who_as : View → Caller → Who
 who_as v nobody = Nobody
 who_as v (logged_in ns) = Roles (role_set v ns)
 
-abbrev pub checked_as : View → Option Caller → Checked
-checked_as v none = Bad
-checked_as v (some c) = Good (who_as v c)
+abbrev pub checked_as : View → Option Caller → Optional Who
+checked_as v none = None
+checked_as v (some c) = Some (who_as v c)
 
 -- the view has a role i, and it is this one
 abbrev listed : View → ℕ → Bool
@@ -125,7 +124,7 @@ module _ (v : View) (few : length v.roles ≤ 32) where
 
     -- the lines behind k names: all have to be names, and not too many
     abbrev Behind : ℕ → List Text → List Line → Type 0
-    Behind k ns ls = check_names v k (role_set v ns) ls ≡ cond (all_ended_names ls && leb (k + length ls) most_names) (Good (Roles (role_set v (ns ++ names_in ls)))) Bad
+    Behind k ns ls = check_names v k (role_set v ns) ls ≡ cond (all_ended_names ls && leb (k + length ls) most_names) (Some (Roles (role_set v (ns ++ names_in ls)))) None
 
     names_checked : (k : ℕ) (ns : List Text) (ls : List Line) → k ≤ 32 → Behind k ns ls
     unfolding check_names all_ended_names
@@ -133,8 +132,8 @@ module _ (v : View) (few : length v.roles ≤ 32) where
     names_checked k ns (n ∷ ls) h = go (is_ended_name n) (dec_lt k 32) (names_checked (suc k) (ns ++ n.bytes ∷ []) ls)
       where
         go : (b : Bool) → Dec (k < 32) → (suc k ≤ 32 → Behind (suc k) (ns ++ n.bytes ∷ []) ls)
-            → cond b (cond (leb most_names k) Bad (check_names v (suc k) (with_role v (role_set v ns) n.bytes) ls)) Bad
-            ≡ cond ((b && all_ended_names ls) && leb (k + suc (length ls)) most_names) (Good (Roles (role_set v (ns ++ n.bytes ∷ names_in ls)))) Bad
+            → cond b (cond (leb most_names k) None (check_names v (suc k) (with_role v (role_set v ns) n.bytes) ls)) None
+            ≡ cond ((b && all_ended_names ls) && leb (k + suc (length ls)) most_names) (Some (Roles (role_set v (ns ++ n.bytes ∷ names_in ls)))) None
         go false d again = refl
         go true (yes j) again =
             let e : k + suc (length ls) ≡ suc k + length ls = omega arith in
@@ -151,19 +150,19 @@ module _ (v : View) (few : length v.roles ≤ 32) where
         ∙ rw zero-add at (names_checked 0 [] (lines_of t) (omega arith))
         ∙ go (all_ended_names (lines_of t) && leb (length (lines_of t)) most_names)
       where
-        go : (b : Bool) → cond b (Good (Roles (role_set v (names_in (lines_of t))))) Bad ≡ checked_as v (cond b (some (logged_in (names_in (lines_of t)))) none)
+        go : (b : Bool) → cond b (Some (Roles (role_set v (names_in (lines_of t))))) None ≡ checked_as v (cond b (some (logged_in (names_in (lines_of t)))) none)
         go true = refl
         go false = refl
     caller_checked (suc (suc n)) t = refl
 
     -- it is bad exactly where Requests reads none
-    pub checked_bad : (login : ℕ) (names : Text) → (check_caller v login names ≡ Bad) ↔ (caller_of login names ≡ none)
+    pub checked_bad : (login : ℕ) (names : Text) → (check_caller v login names ≡ None) ↔ (caller_of login names ≡ none)
     checked_bad login names = rw (caller_checked login names) (go (caller_of login names))
       where
-        go : (c : Option Caller) → (checked_as v c ≡ Bad) ↔ (c ≡ none)
+        go : (c : Option Caller) → (checked_as v c ≡ None) ↔ (c ≡ none)
         go none = (λ e. refl, λ e. refl)
         go (some c) = (λ e. cc, λ e. cc)
 
     -- and else the caller that it reads
-    pub checked_good : (login : ℕ) (names : Text) (c : Caller) (w : Who) → caller_of login names ≡ some c → check_caller v login names ≡ Good w → w ≡ who_as v c
-    checked_good login names c w e h = let g : Good w ≡ Good (who_as v c) = sym h ∙ caller_checked login names ∙ ap (checked_as v) e in cc
+    pub checked_good : (login : ℕ) (names : Text) (c : Caller) (w : Who) → caller_of login names ≡ some c → check_caller v login names ≡ Some w → w ≡ who_as v c
+    checked_good login names c w e h = let g : Some w ≡ Some (who_as v c) = sym h ∙ caller_checked login names ∙ ap (checked_as v) e in cc

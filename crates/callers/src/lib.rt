@@ -1,14 +1,12 @@
 // Who the caller is, and which of the listing's roles it has.
 #![tactic(auto)]
 
-ghost use Rattle.std.specs.Prelude.{◌≡◌, ◌≤◌, ◌<◌, length};
+ghost use Rattle.std.specs.Prelude.{◌≡◌};
 ghost use Rattle.text.specs.Lines.{lines_of};
-ghost use Rattle.reading.specs.Holds.{Holds};
-ghost use Rattle.reading.specs.Views.{view_at};
 ghost use Rattle.callers.specs.RoleSets.{check_caller, check_names, with_role};
 
-use entries::tables::Tally;
-use reading::held;
+use reading::held::View;
+use reading::lines;
 use text::texts;
 
 // A caller as the listing sees it: not logged in, or logged in with those of the listing's roles, as the digits of a number.
@@ -18,69 +16,50 @@ pub enum Who {
     Roles(u64),
 }
 
-// What a login number and a text of names come to: bad, or a caller.
-#[derive(Clone, Copy)]
-pub enum Checked {
-    Bad,
-    Good(Who),
-}
-
 // The set with a role of the listing put in, where the name is one.
-pub fn with_role(s: &[u8], w: &[u32], t: Tally, set: u64, name: &[u8]) -> u64
-    requires { Holds s.now t w.now }
-    ensures { result ≡ with_role (view_at s.now t w.now) set name.now }
+pub fn with_role(view: &View, set: u64, name: &[u8]) -> u64
+    ensures { result ≡ with_role view.now set name.now }
 {
-    let i = held::role_index(s, w, t, name);
-    if i < held::role_count(s, w, t) {
+    let i = view.role_index(name);
+    if i < view.role_count() {
         return set | (1 << (i % 64) as u32);
     }
     set
 }
 
-// The roles of a caller who is logged in.
-pub fn logged_in(s: &[u8], w: &[u32], t: Tally, names: &[u8]) -> Checked
-    requires { Holds s.now t w.now }
-    ensures { result ≡ check_names (view_at s.now t w.now) 0 0 (lines_of names.now) }
+// The roles of a caller who is logged in, or nothing where the names are bad.
+pub fn logged_in(view: &View, names: &[u8]) -> Option<Who>
+    ensures { result ≡ check_names view.now 0 0 (lines_of names.now) }
 {
     let mut set = 0;
     let mut count: usize = 0;
     let mut at = 0;
     while at < names.len() {
         let name = texts::scan(names, at);
-        let e = name.end;
-        let clean = name.clean;
-        if names.len() <= e {
-            return Checked::Bad;
+        if !lines::ends_at(names, name.end) {
+            return None;
         }
-        if names[e] != b'\n' {
-            return Checked::Bad;
-        }
-        if !names::is_role_name(&names[at..e], clean) {
-            return Checked::Bad;
+        if !names::is_role_name(&names[at..name.end], name.clean) {
+            return None;
         }
         if 32 <= count {
-            return Checked::Bad;
+            return None;
         }
-        set = with_role(s, w, t, set, &names[at..e]);
-        count = count + 1;
-        at = e + 1;
+        set = with_role(view, set, &names[at..name.end]);
+        count += 1;
+        at = name.end + 1;
     }
-    Checked::Good(Who::Roles(set))
+    Some(Who::Roles(set))
 }
 
-// The caller of a login number and a text of names.
-pub fn caller(s: &[u8], w: &[u32], t: Tally, login: u32, names: &[u8]) -> Checked
-    requires { Holds s.now t w.now }
-    ensures { result ≡ check_caller (view_at s.now t w.now) login names.now }
+// The caller of a login number and a text of names, or nothing where they are bad.
+#[tactic(auto, unfolding(crate::specs::RoleSets::check_caller))]
+pub fn caller(view: &View, login: u32, names: &[u8]) -> Option<Who>
+    ensures { result ≡ check_caller view.now login names.now }
 {
-    if login == 1 {
-        return logged_in(s, w, t, names);
+    match login {
+        0 if names.is_empty() => Some(Who::Nobody),
+        1 => logged_in(view, names),
+        _ => None,
     }
-    if login != 0 {
-        return Checked::Bad;
-    }
-    if 0 < names.len() {
-        return Checked::Bad;
-    }
-    Checked::Good(Who::Nobody)
 }

@@ -1,11 +1,12 @@
 -- What is told of a hit is its answer, and the walk's hit is a trial: of any two views. Of two listings' views it is the verdict.
-use mathlib.Core.Path.{◌≡◌, sym, ap, ap₂, ◌∙◌}
+use mathlib.Core.Path.{◌≡◌, refl, sym, ap, ◌∙◌}
 use mathlib.Core.List.{List, []}
 use mathlib.Core.Option as Opt
 use Prim.Native.Nat.{ℕ, zero, suc, ◌+◌, ◌≤◌, ◌<◌}
 use native.Mathlib.Omega.{arith}
 use lib.ListN.{length, get_or}
 use lib.Seq.{sets}
+use Rattle.std.specs.Prelude.{Option, Some, None}
 use Rattle.text.specs.Texts.{Text, bytes, part}
 use Rattle.listings.specs.Refusals.{report}
 use Rattle.names.specs.Patterns.{extension, kind_of}
@@ -21,7 +22,6 @@ use Rattle.grants.specs.Scratch.{texts_of, Numbered, Walkable}
 use Rattle.grants.specs.declared.scratch.Counts.{Counts}
 use Rattle.walks.specs.Walks.{walked, hit_path, hit_shown}
 use Rattle.walks.specs.declared.walking.Hit.{Hit}
-use Rattle.walks.specs.declared.walking.Hit.TheVariants as H
 use Rattle.walks.proofs.Hits.{walkable, hit_behind, hit_method, hit_caller}
 use Rattle.walks.proofs.Verdict.{walked_verdict}
 use Rattle.numbers.specs.Writes.{old_view, new_view}
@@ -29,12 +29,12 @@ use Rattle.firsts.specs.declared.pairs.Pair.{Pair}
 use Rattle.showing.specs.Shown.{tried_of, Telling, EndingIn, FoundIn, found_request}
 use Rattle.showing.proofs.Pieces.{wider_short}
 use Rattle.comparisons.specs.Outcomes.{answered, compared_both, comparison_for, answer_for}
-use Rattle.comparing.specs.Tellings.{BothRead, Prepared, IsFiller, found_at, IsTrial, compared_hit}
+use Rattle.comparing.specs.Tellings.{BothRead, Prepared, IsFiller, IsTrial, compared_hit}
 use Rattle.comparisons.specs.declared.answers.Comparison.{Comparison}
 
 -- ---- what is told
 -- nothing is found
-module _ (old new : View) (h : Hit) (is : h ≡ H.Nothing) where
+module _ (old new : View) (h : Option Hit) (is : h ≡ None) where
   pub none_handed : (r : ℕ) (x : Comparison) → r ≡ 0 + 17 → x ≡ record { report = report 0 0 0; length = r } → x ≡ comparison_for (compared_hit old new h)
   unfolding answer_of line_of
   none_handed r x p e = let q : r ≡ 17 = omega arith in e ∙ rw (q, is)
@@ -43,29 +43,29 @@ module _ (old new : View) (h : Hit) (is : h ≡ H.Nothing) where
   unfolding answer_of line_of
   none_written out out' long e = let k : length (bytes "verdict\tno wider\n") ≤ length out = omega arith in rw is (e ∙ sets_start (bytes "verdict\tno wider\n") out k)
 
--- a hit, whose caller's number is k
-module _ (old new : Text) (w : List ℕ) (pair : Pair) (T : Telling old new w pair) (h : Hit) (trial : IsTrial (old_view old w pair) (new_view new w pair) h) (n : ℕ)
-    (F : IsFiller (old_view old w pair) (new_view new w pair) n) (j e m d : ℕ) (is : h ≡ H.At j e m d) (k : ℕ) (same_number : k ≡ d) where
+-- a hit
+module _ (old new : Text) (w : List ℕ) (pair : Pair) (T : Telling old new w pair) (h : Option Hit) (trial : IsTrial (old_view old w pair) (new_view new w pair) h) (n : ℕ)
+    (F : IsFiller (old_view old w pair) (new_view new w pair) n) (one : Hit) (is : h ≡ Some one) where
   abbrev ov : View
   ov = old_view old w pair
 
   abbrev nv : View
   nv = new_view new w pair
 
-  pub found_in : FoundIn ov nv (found_at j e m k)
-  found_in = rw same_number (rw is at trial)
+  pub found_in : FoundIn ov nv one
+  found_in = rw is at trial
 
   abbrev text : Text
-  text = answer_of (Opt.some (found_request ov nv n (found_at j e m k)))
+  text = answer_of (Opt.some (found_request ov nv n one))
 
   text_is : answer_of (hit_shown ov nv h) ≡ text
   unfolding filler
   text_is =
-      ap (λ (y : Hit). answer_of (hit_shown ov nv y)) is
-      ∙ ap₂ (λ (f i : ℕ). answer_of (Opt.some (request (hit_path (numbered (bytes "q") f) (texts_of ov nv) j e) (get_or (tried_of ov nv) m []) (caller_at nv.roles i)))) (sym F) (sym same_number)
+      ap (λ (y : Option Hit). answer_of (hit_shown ov nv y)) is
+      ∙ ap (λ (f : ℕ). answer_of (Opt.some (request (hit_path (numbered (bytes "q") f) (texts_of ov nv) one.stem one.ending) (get_or (tried_of ov nv) one.caught.method []) (caller_at nv.roles one.caught.caller)))) (sym F)
 
   short : length text ≤ 1024
-  short = wider_short old new w pair T (found_at j e m k) found_in n
+  short = wider_short old new w pair T one found_in n
 
   pub hit_short : (r : ℕ) → r ≡ length text → r ≤ 1024
   hit_short r p = omega (arith, short)
@@ -84,28 +84,28 @@ module _ (old new : Text) (w : List ℕ) (pair : Pair) (c : Counts) (P : Prepare
   pub tells : Telling old new w pair
   tells = record { both = P.both; long = P.long; methods = rw (← P.numbers.methods.all) P.numbers.methods }
 
-  pub hit_trial : (h : Hit) → h ≡ walked (part 2048 4096 w) c → IsTrial (old_view old w pair) (new_view new w pair) h
-  hit_trial H.Nothing q = tt
-  hit_trial (H.At j e m d) q = record {
-    ending = ends e (hit_behind (old_view old w pair) (new_view new w pair) P.both.news.proper (part 2048 4096 w) c P.numbers j e m d (sym q));
-    method = hit_method (old_view old w pair) (new_view new w pair) P.both.news.proper (part 2048 4096 w) c P.numbers j e m d (sym q);
-    caller = hit_caller (old_view old w pair) (new_view new w pair) P.both.news.proper (part 2048 4096 w) c P.numbers j e m d (sym q);
+  pub hit_trial : (h : Option Hit) → h ≡ walked (part 2048 4096 w) c → IsTrial (old_view old w pair) (new_view new w pair) h
+  hit_trial None q = tt
+  hit_trial (Some h) q = record {
+    ending = ends h.ending (hit_behind (old_view old w pair) (new_view new w pair) P.both.news.proper (part 2048 4096 w) c P.numbers h (sym q));
+    method = hit_method (old_view old w pair) (new_view new w pair) P.both.news.proper (part 2048 4096 w) c P.numbers h (sym q);
+    caller = hit_caller (old_view old w pair) (new_view new w pair) P.both.news.proper (part 2048 4096 w) c P.numbers h (sym q);
   }
     where
       ts : List Text
       ts = texts_of (old_view old w pair) (new_view new w pair)
 
-      ends : (e : ℕ) → ((i : ℕ) → e ≡ i + 1 → (i < length ts) × ((t : Text) × (kind_of (get_or ts i []) ≡ extension t))) → EndingIn ts e
-      ends zero f = tt
-      ends (suc i) f = let r = f i (omega arith) in (r.0, r.1.0, r.1.1)
+      ends : (e : Option ℕ) → ((i : ℕ) → e ≡ Some i → (i < length ts) × ((t : Text) × (kind_of (get_or ts i []) ≡ extension t))) → EndingIn ts e
+      ends None f = tt
+      ends (Some i) f = let r = f i refl in (r.0, r.1.0, r.1.1)
 
 -- what is told of it
-module _ (old new : View) (h g : Hit) (is : h ≡ g) where
+module _ (old new : View) (h g : Option Hit) (is : h ≡ g) where
   pub walked_handed : (x : Comparison) → x ≡ comparison_for (compared_hit old new h) → x ≡ comparison_for (compared_hit old new g)
-  walked_handed x e = e ∙ ap (λ (y : Hit). comparison_for (compared_hit old new y)) is
+  walked_handed x e = e ∙ ap (λ (y : Option Hit). comparison_for (compared_hit old new y)) is
 
   pub walked_written : (out out' : Text) → out' ≡ answer_for (compared_hit old new h) out → out' ≡ answer_for (compared_hit old new g) out
-  walked_written out out' e = e ∙ ap (λ (y : Hit). answer_for (compared_hit old new y) out) is
+  walked_written out out' e = e ∙ ap (λ (y : Option Hit). answer_for (compared_hit old new y) out) is
 
 -- ---- of two listings
 pub listings_told : (old new : Text) (w : List ℕ) (pair : Pair) → BothRead old new w pair → (x : List ℕ) (c : Counts) → Numbered (old_view old w pair) (new_view new w pair) x c

@@ -1,5 +1,5 @@
 -- What the functions of the call hand to each other: for the proofs alone.
-use Rattle.std.specs.Prelude.{ℕ, ◌≤◌, ◌≡◌, List, length}
+use Rattle.std.specs.Prelude.{ℕ, ◌≤◌, ◌≡◌, List, length, Option, Some, None}
 use Rattle.text.specs.Texts.{Text, part}
 use Rattle.reading.specs.Holds.{HoldsListing}
 use Rattle.reading.specs.Views.{View}
@@ -11,9 +11,7 @@ use Rattle.numbers.specs.Writes.{BothHeld, old_view, new_view}
 use Rattle.firsts.specs.declared.pairs.Pair.{Pair}
 use Rattle.walks.specs.Walks.{hit_shown}
 use Rattle.walks.specs.declared.walking.Hit.{Hit}
-use Rattle.walks.specs.declared.walking.Hit.TheVariants as H
 use Rattle.showing.specs.Shown.{FoundIn}
-use Rattle.showing.specs.declared.hits.Found.{Found}
 use Rattle.comparisons.specs.Outcomes.{Compared, answered}
 
 -- the table holds two accepted listings
@@ -31,15 +29,11 @@ pub record Prepared (old new : Text) (w : List ℕ) (pair : Pair) (c : Counts) :
 abbrev pub IsFiller : View → View → ℕ → Type 0
 IsFiller old new n = n ≡ first_number (fills (texts_of old new))
 
--- the numbers of a hit
-abbrev pub found_at : ℕ → ℕ → ℕ → ℕ → Found
-found_at j e m d = record { stem = j; ending = e; method = m; caller = d }
-
 -- a hit is one of the trials of two views
-abbrev pub IsTrial : View → View → Hit → Type 0
-IsTrial old new H.Nothing = Unit {0}
-IsTrial old new (H.At j e m d) = FoundIn old new (found_at j e m d)
+abbrev pub IsTrial : View → View → Option Hit → Type 0
+IsTrial old new None = Unit {0}
+IsTrial old new (Some h) = FoundIn old new h
 
 -- what is answered for a hit
-abbrev pub compared_hit : View → View → Hit → Compared
+abbrev pub compared_hit : View → View → Option Hit → Compared
 compared_hit old new h = answered (answer_of (hit_shown old new h))

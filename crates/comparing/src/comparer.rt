@@ -12,16 +12,15 @@ ghost use Rattle.comparing.specs.Tellings.{BothRead, Prepared, IsFiller, IsTrial
 
 use comparisons::answers;
 use comparisons::answers::Comparison;
-use entries::tables;
+use entries::tables::Tally;
 use fillers::finding;
 use firsts::pairs::Pair;
 use grants::scratch::Counts;
-use listings::answers::{SHORT_TABLE, SMALL_ANSWER, number};
+use listings::answers::{SHORT_TABLE, SMALL_ANSWER};
 use numbers::numbering;
 use reading::reader;
-use reading::reader::Loaded;
+use reading::reader::Refusal;
 use showing::hits;
-use showing::hits::Found;
 use walks::walking;
 use walks::walking::Hit;
 
@@ -32,7 +31,7 @@ pub fn tell<'a, 'b>(
     w: &'b [u32],
     pair: Pair,
     n: usize,
-    h: Hit,
+    h: Option<Hit>,
     answer: &mut [u8],
 ) -> Comparison
     requires { ((Telling old.now new.now w.now pair × IsTrial (old_view old.now w.now pair) (new_view new.now w.now pair) h) × IsFiller (old_view old.now w.now pair) (new_view new.now w.now pair) n) × (1024 ≤ length answer.old) }
@@ -40,16 +39,8 @@ pub fn tell<'a, 'b>(
     ensures answer { answer.new ≡ answer_for (compared_hit (old_view old.now w.now pair) (new_view new.now w.now pair) h) answer.old }
 {
     match h {
-        Hit::Nothing => answers::tell(writing::put(answer, 0, b"verdict\tno wider\n")),
-        Hit::At(j, e, m, d) => {
-            let found = Found {
-                stem: j,
-                ending: e,
-                method: m,
-                caller: tables::wide(d),
-            };
-            answers::tell(hits::put_wider(old, new, w, pair, n, found, answer))
-        }
+        None => answers::tell(writing::put(answer, 0, b"verdict\tno wider\n")),
+        Some(hit) => answers::tell(hits::put_wider(old, new, w, pair, n, hit, answer)),
     }
 }
 
@@ -85,17 +76,15 @@ pub fn compare_held<'a, 'b>(
     ensures rest { drop 4096 w.new ≡ drop 4096 w.old }
     ensures size { length w.new ≡ length w.old }
 {
-    let to = pair.old;
-    let tn = pair.new;
-    let n = finding::filler_number(old, to, new, tn, w, 1024);
+    let n = finding::filler_number(old, pair.old, new, pair.new, w, 1024);
     let c = numbering::number(old, new, w, pair);
     compare_numbers(old, new, w, pair, n, c, answer)
 }
 
 // What is compared once both listings are read, old into the first n numbers of w and new into the next n.
 pub fn compare_loaded<'a, 'b>(
-    lo: Loaded,
-    ln: Loaded,
+    lo: Result<Tally, Refusal>,
+    ln: Result<Tally, Refusal>,
     old: &'a [u8],
     new: &'a [u8],
     answer: &mut [u8],
@@ -108,10 +97,10 @@ pub fn compare_loaded<'a, 'b>(
     ensures rest { (drop (4 * n) w.new ≡ drop (4 * n) w.old) × (length w.new ≡ length w.old) }
 {
     match lo {
-        Loaded::Not(f, line) => answers::refuse(number(f), 1, line),
-        Loaded::Whole(to) => match ln {
-            Loaded::Not(f, line) => answers::refuse(number(f), 2, line),
-            Loaded::Whole(tn) => {
+        Err(r) => answers::refuse(u32::from(r.fault), 1, r.line),
+        Ok(to) => match ln {
+            Err(r) => answers::refuse(u32::from(r.fault), 2, r.line),
+            Ok(tn) => {
                 let pair = Pair { old: to, new: tn };
                 compare_held(old, new, pair, answer, w)
             }

@@ -6,7 +6,7 @@ ghost use Rattle.decide_edges.specs.Stored.{two_at, four_at};
 pub fn byte_at(s: &[u8], i: usize) -> u8
     ensures { result ≡ get_or s.now i 0 }
 {
-    if i < s.len() { s[i] } else { 0 }
+    s.get(i).copied().unwrap_or(0)
 }
 
 // The number that two bytes from offset i on make.
@@ -15,7 +15,7 @@ pub fn two_at(s: &[u8], i: usize) -> usize
     ensures value { result ≡ two_at s.now i }
     ensures upper_bound { result < 65536 }
 {
-    byte_at(s, i) as usize + byte_at(s, i + 1) as usize * 256
+    usize::from(u16::from_le_bytes([byte_at(s, i), byte_at(s, i + 1)]))
 }
 
 // The number that four bytes from offset i on make.
@@ -23,7 +23,12 @@ pub fn four_at(s: &[u8], i: usize) -> u32
     requires { i < 10 }
     ensures { result ≡ four_at s.now i }
 {
-    two_at(s, i) as u32 + two_at(s, i + 2) as u32 * 65536
+    u32::from_le_bytes([
+        byte_at(s, i),
+        byte_at(s, i + 1),
+        byte_at(s, i + 2),
+        byte_at(s, i + 3),
+    ])
 }
 
 // Where a part of n bytes ends that starts at `from`, in a file of `most` bytes: it is cut to what is there.
@@ -33,5 +38,5 @@ pub fn end_of(from: usize, n: usize, most: usize) -> usize
     ensures upper_bound { result ≤ most }
     ensures value { result ≡ min (from + n) most }
 {
-    if n < most - from { from + n } else { most }
+    from + n.min(most - from)
 }

@@ -3,7 +3,9 @@ use mathlib.Core.Path.{◌≡◌, refl, sym, ap, ◌∙◌}
 use mathlib.Core.Bool.{Bool, true, false, not}
 use mathlib.Core.List.{List, [], ◌++◌}
 use mathlib.Core.Logic.{◌↔◌}
-use mathlib.Core.Option.{Option, none, some}
+use Rattle.std.proofs.Common.{Option, Some, None, Result, Ok, Err}
+use mathlib.Core.Option as M
+use mathlib.Core.Option.{none, some}
 use Prim.Native.Nat.{ℕ, ◌≤◌, ◌<◌}
 use native.Mathlib.Omega.{arith}
 use lib.ListN.{length, get_or, take, drop}
@@ -19,11 +21,11 @@ use Rattle.listings.specs.Listings.{listing_of}
 use Rattle.worktable.specs.Work.{zeroed, work_after, is_short}
 use Rattle.worktable.proofs.Lengths.{too_short, long_enough}
 use Rattle.worktable.proofs.Lent.{back_first}
-use Rattle.reading.specs.Holds.{Holds, HoldsListing, LoadOutcome}
-use Rattle.reading.specs.Views.{View, texts, view_at}
+use Rattle.reading.specs.Holds.{Holds, HoldsListing, ListingHeld, LoadOutcome}
+use Rattle.reading.specs.Views.{View, texts, view_at, ProperView}
 use Rattle.listings.specs.declared.answers.Fault.{Fault}
-use Rattle.reading.specs.declared.reader.Loaded.{Loaded}
-use Rattle.reading.specs.declared.reader.Loaded.TheVariants.{Whole, Not}
+use Rattle.reading.specs.declared.reader.Refusal.{Refusal}
+use Rattle.reading.proofs.Holdings.{listing_viewed}
 use Rattle.entries.specs.declared.tables.Tally.{Tally}
 use Rattle.reading.proofs.Accepted.{accepted_proper}
 use Rattle.decisions.specs.Paths.{dropped}
@@ -38,8 +40,6 @@ use Rattle.deciding.specs.Deciders.{answer_for}
 use Rattle.decisions.specs.declared.answers.Answer.{Answer}
 use Rattle.decisions.specs.declared.answers.Answer.TheVariants.{Open}
 use Rattle.deciding.specs.declared.answers.Decision.{Decision}
-use Rattle.callers.specs.declared.Checked.{Checked}
-use Rattle.callers.specs.declared.Checked.TheVariants.{Bad, Good}
 use Rattle.callers.specs.declared.Who.{Who}
 use Rattle.deciding.specs.declared.joining.Joined.{Joined}
 use Rattle.matching.specs.declared.Leading.{Leading}
@@ -57,8 +57,8 @@ answered_whole n x e = ap (λ (r : Report). record { report = r; answer = n }) e
 
 -- ---- the answer for a path and a method
 -- a method has its index or none: their number is small
-pub method_near : (s : Text) (t : Tally) (w : List ℕ) (m : Text) (i : ℕ) → Holds s t w → i ≡ index_of m (view_at s t w).methods → i < 32
-method_near s t w m i H e = omega (arith, index_bound m (view_at s t w).methods, H.proper.few_methods)
+pub method_near : (v : View) (m : Text) (i : ℕ) → ProperView v → i ≡ index_of m v.methods → i < 32
+method_near v m i P e = omega (arith, index_bound m v.methods, P.few_methods)
 
 module _ (v : View) (path : Text) (x : Leading) (led : x ≡ leading (texts v) path) where
   -- no line leads
@@ -110,54 +110,60 @@ module _ (s path method names : Text) (login : ℕ) (p : Bool) (on-path : p ≡ 
     pub method_refused : not q ≡ true → d ≡ refused 12 0 0 → d ≡ decide_request (asked s path method login names)
     method_refused n e = rw (← on-path, not-false p right, ← on-method, not-true q n) e
 
-    module _ (h : Checked) (named : not q ≡ false) (t : Tally) (w : List ℕ) (on-caller : h ≡ check_caller (view_at s t w) login names) where
+    module _ (h : Option Who) (named : not q ≡ false) (v : View) (on-caller : h ≡ check_caller v login names) where
       -- what is decided of the caller is decided of the request
       by_caller : d ≡ decide_caller (asked s path method login names) (caller_of login names) → d ≡ decide_request (asked s path method login names)
       by_caller e = rw (← on-path, not-false p right, ← on-method, not-false q named) e
 
-      module _ (H : HoldsListing s t w) where
+      module _ (H : ListingHeld s v) where
         -- the caller is bad where there is none
-        bad_none : (h ≡ Bad) ↔ (caller_of login names ≡ none)
-        bad_none = rw on-caller (checked_bad (view_at s t w) H.holds.proper.few_roles H.holds.proper.roles_once login names)
+        bad_none : (h ≡ None) ↔ (caller_of login names ≡ none)
+        bad_none = rw on-caller (checked_bad v H.proper.few_roles H.proper.roles_once login names)
 
         -- the caller is bad
-        pub caller_refused : h ≡ Bad → d ≡ refused 13 0 0 → d ≡ decide_request (asked s path method login names)
+        pub caller_refused : h ≡ None → d ≡ refused 13 0 0 → d ≡ decide_request (asked s path method login names)
         caller_refused b e = by_caller (rw (bad_none.0 b) e)
 
         -- nothing is: the answer
-        pub request_answered : (who : Who) (a : Answer) (n : ℕ) → h ≡ Good who → a ≡ answer_for (view_at s t w) (dropped path) method who → n ≡ answer_number a → d ≡ answered n
+        pub request_answered : (who : Who) (a : Answer) (n : ℕ) → h ≡ Some who → a ≡ answer_for v (dropped path) method who → n ≡ answer_number a → d ≡ answered n
             → d ≡ decide_request (asked s path method login names)
         request_answered who a n g e f r = by_caller (go (caller_of login names) refl)
           where
-            go : (o : Option Caller) → caller_of login names ≡ o → d ≡ decide_caller (asked s path method login names) o
-            go none c = let b : h ≡ Bad = bad_none.1 c in cc
+            go : (o : M.Option Caller) → caller_of login names ≡ o → d ≡ decide_caller (asked s path method login names) o
+            go none c = let b : h ≡ None = bad_none.1 c in cc
             go (some k) c =
-                let roles = H.holds.proper in
+                let roles = H.proper in
                 r ∙ ap answered (f ∙ ap answer_number (e
-                ∙ ap (answer_for (view_at s t w) (dropped path) method) (checked_good (view_at s t w) roles.few_roles roles.roles_once login names k who c (sym on-caller ∙ g))
+                ∙ ap (answer_for v (dropped path) method) (checked_good v roles.few_roles roles.roles_once login names k who c (sym on-caller ∙ g))
                 ∙ ap (λ (v : View). answer_for v (dropped path) method (who_as v k)) H.view
                 ∙ answer_for_lem (listing_of s) (accepted_proper s H.accepts) path method k))
 
 -- ---- a listing that is read
-module _ (s : Text) (l : Loaded) (w : List ℕ) (L : LoadOutcome s l w) where
+module _ (s : Text) (l : Result Tally Refusal) (w : List ℕ) (L : LoadOutcome s l w) where
   -- one that is read whole is held
-  pub loaded_holds : (t : Tally) → l ≡ Whole t → HoldsListing s t w
-  loaded_holds t e = rw e at L.holds
+  loaded_listing : (t : Tally) → l ≡ Ok t → HoldsListing s t w
+  loaded_listing t e = rw e at L.holds
+
+  pub loaded_holds : (t : Tally) → l ≡ Ok t → Holds s t w
+  loaded_holds t e = (loaded_listing t e).holds
+
+  pub loaded_viewed : (t : Tally) (v : View) → l ≡ Ok t → v ≡ view_at s t w → ListingHeld s v
+  loaded_viewed t v e q = listing_viewed s t w v (loaded_listing t e) q
 
   module _ (path method names : Text) (login : ℕ) (d : Decision) where
     -- then the request decides
-    pub loaded_decided : (t : Tally) → l ≡ Whole t → d ≡ decide_request (asked s path method login names)
+    pub loaded_decided : (t : Tally) → l ≡ Ok t → d ≡ decide_request (asked s path method login names)
         → d ≡ decide_listing (asked s path method login names) (reading_of s)
     loaded_decided t e q = rw (← L.answer, e) q
 
     -- and one that is refused is refused
-    pub loaded_refused : (f : Fault) (n k : ℕ) → l ≡ Not f n → k ≡ number_of f → d ≡ refused k 1 n
+    pub loaded_refused : (r : Refusal) (k : ℕ) → l ≡ Err r → k ≡ number_of r.fault → d ≡ refused k 1 r.line
         → d ≡ decide_listing (asked s path method login names) (reading_of s)
-    loaded_refused f n k e p q = rw (← L.answer, e, ← p) q
+    loaded_refused r k e p q = rw (← L.answer, e, ← p) q
 
 -- ---- the first n numbers of w, lent: a is what they become
 -- what is held in them is held still
-pub back_outcome : (n : ℕ) (w a : List ℕ) → n ≤ length w → length a ≡ length (take n w) → (s : Text) (l : Loaded) → LoadOutcome s l a → LoadOutcome s l (take n (a ++ drop n w))
+pub back_outcome : (n : ℕ) (w a : List ℕ) → n ≤ length w → length a ≡ length (take n w) → (s : Text) (l : Result Tally Refusal) → LoadOutcome s l a → LoadOutcome s l (take n (a ++ drop n w))
 back_outcome n w a within kept s l L = rw (back_first n w a within kept) L
 
 -- ---- the whole call

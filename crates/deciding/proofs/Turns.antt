@@ -37,14 +37,14 @@ module _ (j : Joined) (a : Access) where
 -- ---- whether a line is for the text and the method
 module _ (v : View) (t : Text) (m k : ℕ) (u : Text) (r : Bool) (here : u ≡ get_or (texts v) k []) (tested : r ≡ same u t) where
   -- it has another text
-  pub line_other : not r ≡ true → false ≡ is_line_for v t m k
+  pub line_other : r ≡ false → r ≡ is_line_for v t m k
   unfolding is_line_for
-  line_other n = rw (← here, ← tested, not-true r n)
+  line_other n = rw (← here, ← tested, n)
 
   -- it has that text: the digit says it
-  pub line_same : (x : ℕ) → not r ≡ false → m < 32 → x ≡ cover_at v k → eqb (x / 2 ^ (m % 32) % 2) 1 ≡ is_line_for v t m k
+  pub line_same : (x : ℕ) → r ≡ true → m < 32 → x ≡ cover_at v k → eqb (x / 2 ^ (m % 32) % 2) 1 ≡ is_line_for v t m k
   unfolding is_line_for
-  line_same x n h e = rw (← here, ← tested, not-false r n, ← e, mod-eq_of_lt h)
+  line_same x n h e = rw (← here, ← tested, n, ← e, mod-eq_of_lt h)
 
 -- ---- the lines one after the other
 -- none
@@ -62,40 +62,3 @@ module _ (v : View) (t : Text) (m k : ℕ) (j : Joined) (r : Bool) (so_far : j �
   pub join_takes : (a : Access) (j' : Joined) → r ≡ true → a ≡ access_at v k → j' ≡ join_with j a → j' ≡ joined_up_to v t m (k + 1)
   unfolding joined_up_to
   join_takes a j' e p q = rw (add-one k, ← tested, e, ← so_far, ← p) q
-
--- all
-pub join_end : (v : View) (t : Text) (m k n e : ℕ) (j : Joined) → (j ≡ joined_up_to v t m k) × (k ≤ n) → n ≤ k → n ≡ e → j ≡ joined_up_to v t m e
-join_end v t m k n e j i h q = let z : k ≡ e = omega arith in rw (← z) i.0
-
--- ---- the answer
-module _ (j : Joined) (h : Who) where
-  -- no constraint is taken
-  pub answer_none : not j.any ≡ true → Open ≡ joined_answer j h
-  unfolding joined_answer
-  answer_none a = rw a
-
-  -- one closes
-  pub answer_closed : not j.any ≡ false → j.closed ≡ true → Closed ≡ joined_answer j h
-  unfolding joined_answer
-  answer_closed a c = rw (a, c)
-
-  -- one is `open`
-  pub answer_free : not j.any ≡ false → j.closed ≡ false → j.free ≡ true → Open ≡ joined_answer j h
-  unfolding joined_answer
-  answer_free a c f = rw (a, c, f)
-
-  module _ (any : not j.any ≡ false) (closed : j.closed ≡ false) (free : j.free ≡ false) where
-    -- a union, and a caller who is not logged in
-    pub answer_nobody : h ≡ Nobody → LoginWanted ≡ joined_answer j h
-    unfolding joined_answer
-    answer_nobody e = rw (any, closed, free, e)
-
-    -- with no role of it
-    pub answer_lacking : (x : ℕ) → h ≡ Roles x → bit_and x j.roles ≡ 0 → RoleLacking ≡ joined_answer j h
-    unfolding joined_answer
-    answer_lacking x e z = rw (any, closed, free, e, z)
-
-    -- with one
-    pub answer_by_role : (x : ℕ) → h ≡ Roles x → (bit_and x j.roles ≡ 0 → ⊥) → ByRole ≡ joined_answer j h
-    unfolding joined_answer
-    answer_by_role x e z = rw (any, closed, free, e, ne_eqb (bit_and x j.roles) 0 z)

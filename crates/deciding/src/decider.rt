@@ -3,8 +3,7 @@ ghost use Rattle.std.specs.Prelude.{◌≡◌, true, ◌≤◌, length};
 ghost use Rattle.worktable.specs.Work.{zeroed};
 ghost use Rattle.listings.specs.Refusals.{reading_of};
 ghost use Rattle.entries.specs.Room.{listing_room};
-ghost use Rattle.reading.specs.Holds.{Holds, HoldsListing, LoadOutcome};
-ghost use Rattle.reading.specs.Views.{view_at};
+ghost use Rattle.reading.specs.Holds.{ListingHeld, LoadOutcome};
 ghost use Rattle.decisions.specs.Paths.{dropped};
 ghost use Rattle.decisions.specs.Requests.{is_path};
 ghost use Rattle.deciding.specs.Outcomes.{refused, answered, asked, DecideOutcome, decide_listing, decide_request};
@@ -12,13 +11,13 @@ ghost use Rattle.deciding.specs.Deciders.{answer_for};
 
 use crate::answers::Decision;
 use crate::joining;
-use callers::{Checked, Who};
-use decisions::answers;
+use callers::Who;
 use decisions::answers::Answer;
 use entries::tables::Tally;
-use listings::answers::{BAD_CALLER, BAD_METHOD, BAD_PATH, SHORT_TABLE, number};
-use reading::reader::Loaded;
-use reading::{held, reader};
+use listings::answers::{BAD_CALLER, BAD_METHOD, BAD_PATH, SHORT_TABLE};
+use reading::held::View;
+use reading::reader;
+use reading::reader::Refusal;
 use text::texts;
 
 // A refusal, whose answer is 0.
@@ -37,50 +36,47 @@ pub fn tell(answer: u32) -> Decision
 {
     Decision {
         report: listings::answers::accept(),
-        answer: answer,
+        answer,
     }
 }
 
 // The answer to a caller for a path without parameters and a method.
-pub fn answer_at(s: &[u8], w: &[u32], t: Tally, path: &[u8], method: &[u8], who: Who) -> Answer
-    requires { Holds s.now t w.now }
-    ensures { result ≡ answer_for (view_at s.now t w.now) path.now method.now who }
+pub fn answer_at(view: &View, path: &[u8], method: &[u8], who: Who) -> Answer
+    ensures { result ≡ answer_for view.now path.now method.now who }
 {
-    let best = joining::strongest(s, w, t, path);
-    let most = best.most;
-    let at = best.at;
-    if most == 0 {
+    let best = joining::strongest(view, path);
+    if best.most == 0 {
         return Answer::Open;
     }
-    let m = held::method_index(s, w, t, method);
-    let j = joining::join_lines(s, w, t, held::pattern(s, w, t, at), m);
+    let m = view.method_index(method);
+    let j = joining::join_lines(view, view.pattern(best.at), m);
     joining::answer_to(j, who)
 }
 
 // The answer to a caller for a path as received and a method: one without ';' is taken as it is, and of any other what is left without its parameters.
-pub fn answer_for(s: &[u8], w: &[u32], t: Tally, path: &[u8], method: &[u8], who: Who) -> Answer
-    requires { Holds s.now t w.now × (is_path path.now ≡ true) }
-    ensures { result ≡ answer_for (view_at s.now t w.now) (dropped path.now) method.now who }
+pub fn answer_for(view: &View, path: &[u8], method: &[u8], who: Who) -> Answer
+    requires { is_path path.now ≡ true }
+    ensures { result ≡ answer_for view.now (dropped path.now) method.now who }
 {
     if !texts::has_byte(b';', path) {
-        return answer_at(s, w, t, path, method, who);
+        return answer_at(view, path, method, who);
     }
+    // Kept: fixed memory, no heap: a path has 1,024 bytes at most, and what is left of it stands in the first n of these.
     let mut kept = [0; 1024];
     let n = matching::drop_into(&mut kept, path);
-    answer_at(s, w, t, &kept[..n], method, who)
+    answer_at(view, &kept[..n], method, who)
 }
 
-// A request to a listing that the table holds.
+// A request to the listing s, whose view it is.
 pub fn decide_held(
     s: &[u8],
-    w: &[u32],
-    t: Tally,
+    view: &View,
     path: &[u8],
     method: &[u8],
     login: u32,
     names: &[u8],
 ) -> Decision
-    requires { HoldsListing s.now t w.now }
+    requires { ListingHeld s.now view.now }
     ensures { result ≡ decide_request (asked s.now path.now method.now login names.now) }
 {
     if !matching::is_path(path) {
@@ -89,19 +85,15 @@ pub fn decide_held(
     if !names::is_method_name(method) {
         return refuse(BAD_METHOD, 0, 0);
     }
-    let h = callers::caller(s, w, t, login, names);
-    match h {
-        Checked::Bad => refuse(BAD_CALLER, 0, 0),
-        Checked::Good(who) => {
-            let a = answer_for(s, w, t, path, method, who);
-            tell(answers::number(a))
-        }
-    }
+    let Some(who) = callers::caller(view, login, names) else {
+        return refuse(BAD_CALLER, 0, 0);
+    };
+    tell(u32::from(answer_for(view, path, method, who)))
 }
 
 // What is decided once the listing is read into w.
 pub fn decide_loaded(
-    l: Loaded,
+    l: Result<Tally, Refusal>,
     s: &[u8],
     w: &[u32],
     path: &[u8],
@@ -113,8 +105,8 @@ pub fn decide_loaded(
     ensures { result ≡ decide_listing (asked s.now path.now method.now login names.now) (reading_of s.now) }
 {
     match l {
-        Loaded::Not(f, n) => refuse(number(f), 1, n),
-        Loaded::Whole(t) => decide_held(s, w, t, path, method, login, names),
+        Err(r) => refuse(u32::from(r.fault), 1, r.line),
+        Ok(t) => decide_held(s, &View::new(s, w, t), path, method, login, names),
     }
 }
 

@@ -1,34 +1,27 @@
 // The best pattern, the constraints taken for it, and the answer.
-ghost use Rattle.std.specs.Prelude.{◌≡◌, [], ◌<◌, length, get_or};
-ghost use Rattle.reading.specs.Holds.{Holds};
-ghost use Rattle.reading.specs.Views.{texts, view_at};
+ghost use Rattle.std.specs.Prelude.{◌≡◌, ◌<◌, length};
+ghost use Rattle.reading.specs.Views.{texts};
 ghost use Rattle.matching.specs.Strengths.{leading};
 ghost use Rattle.deciding.specs.Joinings.{join_with, is_line_for, joined_up_to, joined_answer};
 
 use callers::Who;
 use decisions::answers::Answer;
-use entries::tables::Tally;
 use matching::Leading;
-use reading::held;
-use reading::held::Access;
+use reading::held::{Access, View};
 use text::texts;
 
 // The strongest of the listing's patterns.
-pub fn strongest(s: &[u8], w: &[u32], t: Tally, path: &[u8]) -> Leading
-    requires { Holds s.now t w.now }
-    ensures { result ≡ leading (texts (view_at s.now t w.now)) path.now }
+pub fn strongest(view: &View, path: &[u8]) -> Leading
+    ensures { result ≡ leading (texts view.now) path.now }
 {
-    let n = held::pattern_count(s, w, t);
     let e = matching::ending_of(path);
     let mut x = Leading {
         seen: 0,
         at: 0,
         most: 0,
     };
-    let mut k = 0;
-    while k < n {
-        x = matching::lead_with(x, held::pattern(s, w, t, k), path, e);
-        k += 1;
+    for k in 0..view.pattern_count() {
+        x = matching::lead_with(x, view.pattern(k), path, e);
     }
     x
 }
@@ -50,86 +43,67 @@ impl Joined {
         match a {
             Access::Open => Joined {
                 any: true,
-                closed: self.closed,
                 free: true,
-                roles: self.roles,
+                ..self
             },
             Access::Closed => Joined {
                 any: true,
                 closed: true,
-                free: self.free,
-                roles: self.roles,
+                ..self
             },
             Access::ByRole(x) => Joined {
                 any: true,
-                closed: self.closed,
-                free: self.free,
                 roles: self.roles | x,
+                ..self
             },
         }
     }
 }
 
 // Whether pattern line k has that text, and its collection covers method m, an index into the listing's methods or their number.
-pub fn is_line_for(s: &[u8], w: &[u32], t: Tally, text: &[u8], m: usize, k: usize) -> bool
-    requires { Holds s.now t w.now × ((m < 32) × (k < length (texts (view_at s.now t w.now)))) }
-    ensures { result ≡ is_line_for (view_at s.now t w.now) text.now m k }
+pub fn is_line_for(view: &View, text: &[u8], m: usize, k: usize) -> bool
+    requires { (m < 32) × (k < length (texts view.now)) }
+    ensures { result ≡ is_line_for view.now text.now m k }
 {
-    if !texts::are_same(held::pattern(s, w, t, k), text) {
-        return false;
-    }
-    (held::cover(s, w, t, k) >> (m % 32) as u32) % 2 == 1
+    texts::are_same(view.pattern(k), text) && (view.cover(k) >> (m % 32) as u32) % 2 == 1
 }
 
 // What the constraints come to that are taken for that pattern text and method m.
-pub fn join_lines(s: &[u8], w: &[u32], t: Tally, text: &[u8], m: usize) -> Joined
-    requires { Holds s.now t w.now × (m < 32) }
-    ensures { result ≡ joined_up_to (view_at s.now t w.now) text.now m (length (texts (view_at s.now t w.now))) }
+pub fn join_lines(view: &View, text: &[u8], m: usize) -> Joined
+    requires { m < 32 }
+    ensures { result ≡ joined_up_to view.now text.now m (length (texts view.now)) }
 {
-    let n = held::pattern_count(s, w, t);
     let mut j = Joined {
         any: false,
         closed: false,
         free: false,
         roles: 0,
     };
-    let mut k = 0;
-    while k < n {
-        let next = k + 1;
-        if is_line_for(s, w, t, text, m, k) {
-            j = j.with(held::access_of(s, w, t, k));
-            k = next;
-        } else {
-            k = next;
+    for k in 0..view.pattern_count() {
+        if is_line_for(view, text, m, k) {
+            j = j.with(view.access(k));
         }
     }
     j
 }
 
 // The answer to a caller.
+#[tactic(auto, unfolding(crate::specs::Joinings::joined_answer))]
 pub fn answer_to(j: Joined, who: Who) -> Answer
     ensures { result ≡ joined_answer j who }
 {
-    let any = j.any;
-    let closed = j.closed;
-    let free = j.free;
-    let roles = j.roles;
-    if !any {
+    if !j.any {
         return Answer::Open;
     }
-    if closed {
+    if j.closed {
         return Answer::Closed;
     }
-    if free {
+    if j.free {
         return Answer::Open;
     }
     match who {
         Who::Nobody => Answer::LoginWanted,
-        Who::Roles(x) => {
-            if x & roles == 0 {
-                return Answer::RoleLacking;
-            }
-            Answer::ByRole
-        }
+        Who::Roles(x) if x & j.roles == 0 => Answer::RoleLacking,
+        Who::Roles(_) => Answer::ByRole,
     }
 }

@@ -1,13 +1,13 @@
 -- Laws about the numbers of the work table, number by number: each has the shape of a step of a loop.
-use mathlib.Core.Path.{◌≡◌, sym, ap, ◌∙◌}
-use mathlib.Core.Bool.{Bool, true, false}
+use mathlib.Core.Path.{◌≡◌, refl, sym, ap, ◌∙◌}
+use mathlib.Core.Bool.{Bool, true, false, ◌&&◌}
 use mathlib.Core.List.{List, [], ◌∷◌, ◌++◌}
 use Prim.Native.Nat.{ℕ, zero, suc, ◌+◌, ◌≤◌, ◌<◌}
 use native.Mathlib.Nat.{add-zero, zero-add, add-suc, suc-add}
 use native.Mathlib.Numerals.{add-one}
-use native.Mathlib.Omega.{arith}
 use lib.ListN.{length, take, drop, get_or, set, drop_of_length-le}
-use lib.Seq.{drop-cons, take-suc-set, take_all}
+use lib.Seq.{drop-cons, take-suc-set}
+use lib.Dec.{eqb}
 use borrow.Author.Tests.{eq-eqb, ne_eqb}
 use Rattle.edges.specs.Garbage.{garbage_at, garbage, agrees}
 
@@ -28,6 +28,21 @@ module _ (f : ℕ → ℕ) (b : Bool) (w : List ℕ) (i : ℕ) (v : b ≡ agrees
   unfolding agrees
   agrees_end h = sym (v ∙ rw (drop_of_length-le w h))
 
+-- where all are to be the same number, it does not matter at which index they stand
+agrees_anywhere : (c i k : ℕ) (w : List ℕ) → agrees (λ (j : ℕ). c) i w ≡ agrees (λ (j : ℕ). c) k w
+unfolding agrees
+agrees_anywhere c i k [] = refl
+agrees_anywhere c i k (x ∷ xs) = ap (λ (b : Bool). eqb x c && b) (agrees_anywhere c (suc i) (suc k) xs)
+
+-- as the library asks of each number
+pub agrees_none : (c : ℕ) → agrees (λ (j : ℕ). c) 0 [] ≡ true
+unfolding agrees
+agrees_none c = refl
+
+pub agrees_first : (c x : ℕ) (xs : List ℕ) → agrees (λ (j : ℕ). c) 0 (x ∷ xs) ≡ (eqb x c && agrees (λ (j : ℕ). c) 0 xs)
+unfolding agrees
+agrees_first c x xs = ap (λ (b : Bool). eqb x c && b) (agrees_anywhere c 1 0 xs)
+
 -- ---- filling
 -- one more number behind n of them
 garbage_more : (i n : ℕ) → garbage i n ++ (garbage_at (i + n) ∷ []) ≡ garbage i (suc n)
@@ -42,7 +57,3 @@ pub fill_step : (w : List ℕ) (i x : ℕ) → take i w ≡ garbage 0 i → i < 
 fill_step w i x v h e =
     rw (add-one i, take-suc-set w i x h, v, e)
     (ap (λ (k : ℕ). garbage 0 i ++ (garbage_at k ∷ [])) (sym (zero-add i)) ∙ garbage_more 0 i)
-
--- no index is left
-pub fill_end : (w : List ℕ) (i n : ℕ) → take i w ≡ garbage 0 i → i ≤ n → length w ≤ i → length w ≡ n → w ≡ garbage 0 n
-fill_end w i n v a b l = sym (take_all i w b) ∙ v ∙ ap (garbage 0) (omega arith)

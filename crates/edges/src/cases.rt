@@ -8,7 +8,7 @@ use std::io::Read;
 fn digit(n: usize) -> u8
     ensures { result ≡ last_digit n }
 {
-    48 + (n % 10) as u8
+    b'0' + (n % 10) as u8
 }
 
 // The name of the file of case k.

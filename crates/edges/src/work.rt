@@ -15,10 +15,8 @@ pub fn fill(w: &mut [u32])
     requires { length w.old ≤ 5000 }
     ensures { w.new ≡ garbage 0 (length w.old) }
 {
-    let mut i = 0;
-    while i < w.len() {
-        w[i] = garbage_at(i);
-        i += 1;
+    for (i, x) in w.iter_mut().enumerate() {
+        *x = garbage_at(i);
     }
 }
 
@@ -27,12 +25,10 @@ pub fn is_kept(w: &[u32], a: usize) -> bool
     requires { length w.now ≤ 5000 }
     ensures { result ≡ is_kept a w.now }
 {
-    let mut i = a;
-    while i < w.len() {
+    for i in a..w.len() {
         if w[i] != garbage_at(i) {
             return false;
         }
-        i += 1;
     }
     true
 }
@@ -41,14 +37,7 @@ pub fn is_kept(w: &[u32], a: usize) -> bool
 pub fn is_zero(w: &[u32]) -> bool
     ensures { result ≡ is_zero w.now }
 {
-    let mut i = 0;
-    while i < w.len() {
-        if w[i] != 0 {
-            return false;
-        }
-        i += 1;
-    }
-    true
+    w.iter().all(|x| *x == 0)
 }
 
 // Whether the first n numbers are 0, and the rest as they were filled.
@@ -56,8 +45,5 @@ pub fn is_cleared(w: &[u32], n: usize) -> bool
     requires { (n ≤ length w.now) × (length w.now ≤ 5000) }
     ensures { result ≡ is_cleared n w.now }
 {
-    if !is_zero(&w[..n]) {
-        return false;
-    }
-    is_kept(w, n)
+    is_zero(&w[..n]) && is_kept(w, n)
 }

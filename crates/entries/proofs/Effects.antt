@@ -1,6 +1,7 @@
 -- What each step comes to, return by return: the refusals, and the tables that have grown. A law's premises are what the code knows there:
 -- the results of its calls, the tests that it has made, and the counts and the table that it hands back.
 use mathlib.Core.Path.{◌≡◌, refl, sym, ap, ◌∙◌}
+use mathlib.Core.Logic.{◌⊎◌, inl, inr}
 use mathlib.Core.Bool.{Bool, true, false, not, cond}
 use mathlib.Core.List.{List}
 use mathlib.Core.Option.{Option, none, some}
@@ -16,16 +17,16 @@ use Rattle.names.specs.Names.{is_star, made_of, is_name, is_role_name, is_method
 use Rattle.listings.specs.Records.{may_follow}
 use Rattle.entries.specs.Sets.{with_member, without_member, lowest}
 use Rattle.listings.specs.Heads.{is_first_method}
-use Rattle.entries.specs.Tables.{Tables, packed, Fits, Field, StepOutcome, Steps, stepped_by, next, tables_at, region, texts_at, check_role, check_constraint, check_allow, check_collection, check_pattern, check_method, add_role, add_constraint, add_allow, add_collection, add_pattern, add_method, add_omit, field_check, field_add, check_record, step_from, record_with, spanned}
+use Rattle.entries.specs.Tables.{Tables, packed, Fits, Field, StepOutcome, Steps, stepped_by, next, tables_at, region, texts_at, check_role, check_constraint, check_allow, check_collection, check_pattern, check_method, add_role, add_constraint, add_allow, add_collection, add_pattern, add_method, add_omit, add_line, marked, stage_behind, field_check, field_add, check_record, step_from, record_with, spanned}
 use Rattle.entries.specs.Tallies.{tally_at, tally_role, tally_constraint, tally_allowed, tally_collection, tally_pattern, tally_line, tally_method}
 use Rattle.listings.specs.declared.answers.Fault.{Fault}
 use Rattle.listings.specs.declared.answers.Fault.TheVariants.{WrongPlace, BadName, BadPattern, RoleTwice, PastMost}
 use Rattle.listings.specs.declared.records.Kind.{Kind}
 use Rattle.listings.specs.declared.records.Kind.TheVariants.{Role, Constraint, Allow, Collection, Pattern, Method, Omit, End}
+use Rattle.listings.specs.declared.records.Stage.{Stage}
 use Rattle.listings.specs.declared.records.Stage.TheVariants.{AfterOpen, AfterAuth, AfterAllow, AfterMethod, AfterOmit, AfterEnd}
 use Rattle.entries.specs.declared.tables.Tally.{Tally}
-use Rattle.entries.specs.declared.steps.Stepped.{Stepped}
-use Rattle.entries.specs.declared.steps.Stepped.TheVariants.{Next, Wrong}
+use Rattle.std.specs.Prelude.{Result, Ok, Err}
 use Rattle.text.proofs.Truths.{and_left, and_right}
 use Rattle.entries.proofs.Growth as G
 
@@ -60,23 +61,23 @@ kept w l f = omega arith
 
 -- ---- an outcome, from what the record's check answers
 module _ (check : Tables → Text → Option Fault) (add : Tables → Text → Tables) (s : Text) (t : Tally) (w : List ℕ) (a e : ℕ) (left : List ℕ) where
-  refused : (f : Fault) → some f ≡ check (tables_at s t w) (part a e s) → Steps check add s t w a e (Wrong f) left
+  refused : (f : Fault) → some f ≡ check (tables_at s t w) (part a e s) → Steps check add s t w a e (Err f) left
   refused f q = record { answer = ap (λ (o : Option Fault). stepped_by o (add (tables_at s t w) (part a e s))) q; fits = tt }
 
   taken : (r u : Tally) → none ≡ check (tables_at s t w) (part a e s) → r ≡ u → tables_at s u left ≡ add (tables_at s t w) (part a e s) → Fits s u left
-      → Steps check add s t w a e (Next r) left
+      → Steps check add s t w a e (Ok r) left
   taken r u q e h f = rw (← q, e) (record { answer = ap next h; fits = f })
 
 -- ---- the records
 module _ (s : Text) (t : Tally) (w : List ℕ) (a e : ℕ) (d : Field s t w a e) where
   -- `collection`
-  pub collection_past : (left : List ℕ) (most : ℕ) → most ≡ 128 → most ≤ t.collections → Steps check_collection add_collection s t w a e (Wrong PastMost) left
+  pub collection_past : (left : List ℕ) (most : ℕ) → most ≡ 128 → most ≤ t.collections → Steps check_collection add_collection s t w a e (Err PastMost) left
   collection_past left most m g =
       let h : 128 ≤ t.collections = omega (arith, m) in
       refused check_collection add_collection s t w a e left PastMost (rw (G.count_covers s t w d.fits, le-leb _ _ h))
 
   pub collection_next : (r : Tally) (most : ℕ) → most ≡ 128 → r ≡ tally_collection t → t.collections < most
-      → Steps check_collection add_collection s t w a e (Next r) (set w (449 + t.collections) 4294967295)
+      → Steps check_collection add_collection s t w a e (Ok r) (set w (449 + t.collections) 4294967295)
   collection_next r most m q g =
       let h : t.collections < 128 = omega (arith, m) in
       taken check_collection add_collection s t w a e _ r (tally_collection t) (rw (G.count_covers s t w d.fits, lt-leb _ _ h)) q
@@ -85,11 +86,11 @@ module _ (s : Text) (t : Tally) (w : List ℕ) (a e : ℕ) (d : Field s t w a e)
 
   -- `constraint⇥open` and `constraint⇥auth`
   module _ (b : Bool) (good : b ≡ is_constraint_kind (part a e s)) where
-    pub constraint_bad : (left : List ℕ) → not b ≡ true → Steps check_constraint add_constraint s t w a e (Wrong BadName) left
+    pub constraint_bad : (left : List ℕ) → not b ≡ true → Steps check_constraint add_constraint s t w a e (Err BadName) left
     constraint_bad left y = refused check_constraint add_constraint s t w a e left BadName (rw (← good, y))
 
     pub constraint_past : (left : List ℕ) (most : ℕ) → most ≡ 64 → not b ≡ false → most ≤ t.constraints
-        → Steps check_constraint add_constraint s t w a e (Wrong PastMost) left
+        → Steps check_constraint add_constraint s t w a e (Err PastMost) left
     constraint_past left most m y g =
         let h : 64 ≤ t.constraints = omega (arith, m) in
         refused check_constraint add_constraint s t w a e left PastMost (rw (← good, y, G.count_accesses s t w d.fits, le-leb _ _ h))
@@ -102,36 +103,36 @@ module _ (s : Text) (t : Tally) (w : List ℕ) (a e : ℕ) (d : Field s t w a e)
       constraint_room = rw (← good, y, G.count_accesses s t w d.fits, lt-leb _ _ few_constraints)
 
       pub constraint_open : (r : Tally) (left : List ℕ) → left ≡ set (set w (581 + t.constraints) 0) (651 + t.constraints) 0
-          → r ≡ tally_constraint t AfterOpen → o ≡ true → Steps check_constraint add_constraint s t w a e (Next r) left
+          → r ≡ tally_constraint t AfterOpen → o ≡ true → Steps check_constraint add_constraint s t w a e (Ok r) left
       constraint_open r left l q k =
           rw l (taken check_constraint add_constraint s t w a e _ r (tally_constraint t AfterOpen) constraint_room q
           (G.open_grown s t w d.fits (part a e s) (sym is ∙ k) few_constraints) (kept w (simp length-set) (omega arith)))
 
       pub constraint_auth : (r : Tally) (left : List ℕ) → left ≡ set (set w (581 + t.constraints) 0) (651 + t.constraints) 1
-          → r ≡ tally_constraint t AfterAuth → o ≡ false → Steps check_constraint add_constraint s t w a e (Next r) left
+          → r ≡ tally_constraint t AfterAuth → o ≡ false → Steps check_constraint add_constraint s t w a e (Ok r) left
       constraint_auth r left l q k =
           rw l (taken check_constraint add_constraint s t w a e _ r (tally_constraint t AfterAuth) constraint_room q
           (G.auth_grown s t w d.fits (part a e s) (sym is ∙ k) few_constraints) (kept w (simp length-set) (omega arith)))
 
   -- `role⇥NAME`
   module _ (b : Bool) (good : b ≡ is_role_name (part a e s)) where
-    pub role_bad : (left : List ℕ) → not b ≡ true → Steps check_role add_role s t w a e (Wrong BadName) left
+    pub role_bad : (left : List ℕ) → not b ≡ true → Steps check_role add_role s t w a e (Err BadName) left
     role_bad left y = refused check_role add_role s t w a e left BadName (rw (← good, y))
 
     module _ (y : not b ≡ false) (i : ℕ) (q : i ≡ index_of (part a e s) (texts_at s (region w 0 t.roles))) where
-      pub role_twice_lem : (left : List ℕ) → i < t.roles → Steps check_role add_role s t w a e (Wrong RoleTwice) left
+      pub role_twice_lem : (left : List ℕ) → i < t.roles → Steps check_role add_role s t w a e (Err RoleTwice) left
       unfolding tables_at
       role_twice_lem left h =
           refused check_role add_role s t w a e left RoleTwice (rw (← good, y, G.count_roles s t w d.fits, ← q, lt-ltb _ _ h))
 
-      pub role_past : (left : List ℕ) (most : ℕ) → most ≡ 32 → t.roles ≤ i → most ≤ t.roles → Steps check_role add_role s t w a e (Wrong PastMost) left
+      pub role_past : (left : List ℕ) (most : ℕ) → most ≡ 32 → t.roles ≤ i → most ≤ t.roles → Steps check_role add_role s t w a e (Err PastMost) left
       unfolding tables_at
       role_past left most x k g =
           let h : 32 ≤ t.roles = omega (arith, x) in
           refused check_role add_role s t w a e left PastMost (rw (← good, y, G.count_roles s t w d.fits, ← q, le-ltb _ _ k, le-leb _ _ h))
 
       pub role_next : (r : Tally) (left : List ℕ) (most : ℕ) → most ≡ 32 → left ≡ set w (0 + t.roles) (packed s a e) → r ≡ tally_role t
-          → t.roles ≤ i → t.roles < most → Steps check_role add_role s t w a e (Next r) left
+          → t.roles ≤ i → t.roles < most → Steps check_role add_role s t w a e (Ok r) left
       unfolding tables_at
       role_next r left most x l m k g =
           let h : t.roles < 32 = omega (arith, x) in
@@ -142,13 +143,13 @@ module _ (s : Text) (t : Tally) (w : List ℕ) (a e : ℕ) (d : Field s t w a e)
 
   -- `allow⇥NAME` and `allow⇥*`
   module _ (b : Bool) (good : b ≡ is_name (part a e s)) where
-    pub allow_bad : (left : List ℕ) → not b ≡ true → Steps check_allow add_allow s t w a e (Wrong BadName) left
+    pub allow_bad : (left : List ℕ) → not b ≡ true → Steps check_allow add_allow s t w a e (Err BadName) left
     allow_bad left y = refused check_allow add_allow s t w a e left BadName (rw (← good, y))
 
     module _ (y : not b ≡ false) (o : Bool) (is : o ≡ is_star (part a e s)) where
       pub allow_star : (r : Tally) (left : List ℕ)
           → left ≡ set (set w (580 + t.constraints) (bit_or (get_or w (580 + t.constraints) 0) (lowest t.declared))) (650 + t.constraints) 2
-          → r ≡ tally_at t AfterAllow → o ≡ true → Steps check_allow add_allow s t w a e (Next r) left
+          → r ≡ tally_at t AfterAllow → o ≡ true → Steps check_allow add_allow s t w a e (Ok r) left
       allow_star r left l m k =
           rw l (taken check_allow add_allow s t w a e _ r (tally_at t AfterAllow) (rw (← good, y, ← is, k)) m
           (G.star_grown s t w d.fits (part a e s) (sym is ∙ k)) (kept w (simp length-set) (omega arith)))
@@ -156,14 +157,14 @@ module _ (s : Text) (t : Tally) (w : List ℕ) (a e : ℕ) (d : Field s t w a e)
       module _ (n : o ≡ false) (i : ℕ) (q : i ≡ index_of (part a e s) (texts_at s (region w 0 t.roles))) where
         pub allow_known : (r : Tally) (left : List ℕ)
             → left ≡ set (set w (580 + t.constraints) (bit_or (get_or w (580 + t.constraints) 0) (with_member 0 i))) (650 + t.constraints) 2
-            → r ≡ tally_at t AfterAllow → i < t.roles → Steps check_allow add_allow s t w a e (Next r) left
+            → r ≡ tally_at t AfterAllow → i < t.roles → Steps check_allow add_allow s t w a e (Ok r) left
         unfolding tables_at
         allow_known r left l m h =
             rw l (taken check_allow add_allow s t w a e _ r (tally_at t AfterAllow)
             (rw (← good, y, ← is, n, G.count_roles s t w d.fits, ← q, lt-ltb _ _ h)) m
             (G.known_role_grown s t w d.fits (part a e s) (sym is ∙ n) i q h) (kept w (simp length-set) (omega arith)))
 
-        pub allow_past : (left : List ℕ) (most : ℕ) → most ≡ 32 → t.roles ≤ i → most ≤ t.roles → Steps check_allow add_allow s t w a e (Wrong PastMost) left
+        pub allow_past : (left : List ℕ) (most : ℕ) → most ≡ 32 → t.roles ≤ i → most ≤ t.roles → Steps check_allow add_allow s t w a e (Err PastMost) left
         unfolding tables_at
         allow_past left most x k g =
             let h : 32 ≤ t.roles = omega (arith, x) in
@@ -172,7 +173,7 @@ module _ (s : Text) (t : Tally) (w : List ℕ) (a e : ℕ) (d : Field s t w a e)
 
         pub allow_new : (r : Tally) (v left : List ℕ) (most : ℕ) → most ≡ 32 → v ≡ set w (0 + t.roles) (packed s a e)
             → left ≡ set (set v (580 + t.constraints) (bit_or (get_or v (580 + t.constraints) 0) (with_member 0 t.roles))) (650 + t.constraints) 2
-            → r ≡ tally_allowed t → t.roles ≤ i → t.roles < most → Steps check_allow add_allow s t w a e (Next r) left
+            → r ≡ tally_allowed t → t.roles ≤ i → t.roles < most → Steps check_allow add_allow s t w a e (Ok r) left
         unfolding tables_at
         allow_new r v left most x z l m k g =
             let h : t.roles < 32 = omega (arith, x) in
@@ -183,17 +184,17 @@ module _ (s : Text) (t : Tally) (w : List ℕ) (a e : ℕ) (d : Field s t w a e)
 
   -- `pattern⇥TEXT`
   module _ (b : Bool) (good : b ≡ is_pattern (part a e s)) where
-    pub pattern_bad : (left : List ℕ) → not b ≡ true → Steps check_pattern add_pattern s t w a e (Wrong BadPattern) left
+    pub pattern_bad : (left : List ℕ) → not b ≡ true → Steps check_pattern add_pattern s t w a e (Err BadPattern) left
     pattern_bad left y = refused check_pattern add_pattern s t w a e left BadPattern (rw (← good, y))
 
-    pub pattern_past : (left : List ℕ) (most : ℕ) → most ≡ 128 → not b ≡ false → most ≤ t.patterns → Steps check_pattern add_pattern s t w a e (Wrong PastMost) left
+    pub pattern_past : (left : List ℕ) (most : ℕ) → most ≡ 128 → not b ≡ false → most ≤ t.patterns → Steps check_pattern add_pattern s t w a e (Err PastMost) left
     pattern_past left most x y g =
         let h : 128 ≤ t.patterns = omega (arith, x) in
         refused check_pattern add_pattern s t w a e left PastMost (rw (← good, y, G.count_patterns s t w d.fits, le-leb _ _ h))
 
     pub pattern_next : (r : Tally) (left : List ℕ) (most : ℕ) → most ≡ 128
         → left ≡ set (set (set w (64 + t.patterns) (spanned a e)) (192 + t.patterns) t.collections) (320 + t.patterns) t.constraints
-        → r ≡ tally_pattern t → not b ≡ false → t.patterns < most → Steps check_pattern add_pattern s t w a e (Next r) left
+        → r ≡ tally_pattern t → not b ≡ false → t.patterns < most → Steps check_pattern add_pattern s t w a e (Ok r) left
     pattern_next r left most x l m y g =
         let h : t.patterns < 128 = omega (arith, x) in
         rw l (taken check_pattern add_pattern s t w a e _ r (tally_pattern t) (rw (← good, y, G.count_patterns s t w d.fits, lt-leb _ _ h)) m
@@ -202,11 +203,11 @@ module _ (s : Text) (t : Tally) (w : List ℕ) (a e : ℕ) (d : Field s t w a e)
 
   -- `method⇥NAME` and `omit⇥NAME`
   module _ (b : Bool) (good : b ≡ is_method_name (part a e s)) where
-    pub line_bad : (add : Tables → Text → Tables) (left : List ℕ) → not b ≡ true → Steps check_method add s t w a e (Wrong BadName) left
+    pub line_bad : (add : Tables → Text → Tables) (left : List ℕ) → not b ≡ true → Steps check_method add s t w a e (Err BadName) left
     line_bad add left y = refused check_method add s t w a e left BadName (rw (← good, y))
 
     pub lines_past : (add : Tables → Text → Tables) (left : List ℕ) (most : ℕ) → most ≡ 512 → not b ≡ false → most ≤ t.lines
-        → Steps check_method add s t w a e (Wrong PastMost) left
+        → Steps check_method add s t w a e (Err PastMost) left
     unfolding tables_at
     lines_past add left most x y g =
         let h : 512 ≤ t.lines = omega (arith, x) in
@@ -217,7 +218,7 @@ module _ (s : Text) (t : Tally) (w : List ℕ) (a e : ℕ) (d : Field s t w a e)
       few_lines = omega (arith, x)
 
       pub methods_past : (add : Tables → Text → Tables) (left : List ℕ) (many : ℕ) → many ≡ 31 → t.methods ≤ i → many ≤ t.methods
-          → Steps check_method add s t w a e (Wrong PastMost) left
+          → Steps check_method add s t w a e (Err PastMost) left
       unfolding tables_at
       methods_past add left many x k f =
           let h : 31 ≤ t.methods = omega (arith, x) in
@@ -232,40 +233,33 @@ module _ (s : Text) (t : Tally) (w : List ℕ) (a e : ℕ) (d : Field s t w a e)
       unfolding tables_at
       new_room k h = rw (← good, y, lt-leb _ _ few_lines, G.count_methods s t w d.fits, ← q, le-ltb _ _ k, lt-leb _ _ h)
 
-      module _ (r : Tally) (left : List ℕ) (fresh : Bool) (first : fresh ≡ is_first_method t.stage) where
-        pub method_known : left ≡ set w (448 + t.collections) (with_member (cond fresh 0 (get_or w (448 + t.collections) 0)) i)
-            → r ≡ tally_line t AfterMethod → i < t.methods → Steps check_method add_method s t w a e (Next r) left
-        method_known l m h =
-            rw l (taken check_method add_method s t w a e _ r (tally_line t AfterMethod) (known_room h) m
-            (G.known_method_grown s t w d.fits (part a e s) i q fresh first few_lines h) (kept w (simp length-set) (omega (arith, few_lines))))
-
-        pub method_new : (v : List ℕ) (many : ℕ) → many ≡ 31 → v ≡ set w (32 + t.methods) (packed s a e)
-            → left ≡ set v (448 + t.collections) (with_member (cond fresh 0 (get_or v (448 + t.collections) 0)) t.methods)
-            → r ≡ tally_method t AfterMethod → t.methods ≤ i → t.methods < many → Steps check_method add_method s t w a e (Next r) left
-        method_new v many x z l m k f =
-            let h : t.methods < 31 = omega (arith, x) in
-            rw l (taken check_method add_method s t w a e _ r (tally_method t AfterMethod) (new_room k h) m
-            (G.new_method_grown s t w d.fits a e d.from d.to (method_name_short s a e d.to b good y) i few_lines q k h v z fresh first)
-            (kept w (rw z (simp length-set)) (omega (arith, few_lines))))
-
       module _ (r : Tally) (left : List ℕ) where
-        pub omit_known : left ≡ set w (448 + t.collections) (without_member (get_or w (448 + t.collections) 0) i)
-            → r ≡ tally_line t AfterOmit → i < t.methods → Steps check_method add_omit s t w a e (Next r) left
-        omit_known l m h =
-            rw l (taken check_method add_omit s t w a e _ r (tally_line t AfterOmit) (known_room h) m
+        pub line_known : (omits : Bool) (stage : Stage) → stage ≡ stage_behind omits
+            → left ≡ set w (448 + t.collections) (marked omits (is_first_method t.stage) (get_or w (448 + t.collections) 0) i)
+            → r ≡ tally_line t stage → i < t.methods → Steps check_method (add_line omits) s t w a e (Ok r) left
+        line_known true stage z l m h =
+            rw l (taken check_method add_omit s t w a e _ r (tally_line t AfterOmit) (known_room h) (m ∙ ap (tally_line t) z)
             (G.known_omit_grown s t w d.fits (part a e s) i q few_lines h) (kept w (simp length-set) (omega (arith, few_lines))))
+        line_known false stage z l m h =
+            rw l (taken check_method add_method s t w a e _ r (tally_line t AfterMethod) (known_room h) (m ∙ ap (tally_line t) z)
+            (G.known_method_grown s t w d.fits (part a e s) i q (is_first_method t.stage) refl few_lines h) (kept w (simp length-set) (omega (arith, few_lines))))
 
-        pub omit_new : (v : List ℕ) (many : ℕ) → many ≡ 31 → v ≡ set w (32 + t.methods) (packed s a e)
-            → left ≡ set v (448 + t.collections) (without_member (get_or v (448 + t.collections) 0) t.methods)
-            → r ≡ tally_method t AfterOmit → t.methods ≤ i → t.methods < many → Steps check_method add_omit s t w a e (Next r) left
-        omit_new v many x z l m k f =
+        pub line_new : (omits : Bool) (stage : Stage) (v : List ℕ) (many : ℕ) → stage ≡ stage_behind omits → many ≡ 31 → v ≡ set w (32 + t.methods) (packed s a e)
+            → left ≡ set v (448 + t.collections) (marked omits (is_first_method t.stage) (get_or v (448 + t.collections) 0) t.methods)
+            → r ≡ tally_method t stage → t.methods ≤ i → t.methods < many → Steps check_method (add_line omits) s t w a e (Ok r) left
+        line_new true stage v many y' x z l m k f =
             let h : t.methods < 31 = omega (arith, x) in
-            rw l (taken check_method add_omit s t w a e _ r (tally_method t AfterOmit) (new_room k h) m
+            rw l (taken check_method add_omit s t w a e _ r (tally_method t AfterOmit) (new_room k h) (m ∙ ap (tally_method t) y')
             (G.new_omit_grown s t w d.fits a e d.from d.to (method_name_short s a e d.to b good y) i few_lines q k h v z)
+            (kept w (rw z (simp length-set)) (omega (arith, few_lines))))
+        line_new false stage v many y' x z l m k f =
+            let h : t.methods < 31 = omega (arith, x) in
+            rw l (taken check_method add_method s t w a e _ r (tally_method t AfterMethod) (new_room k h) (m ∙ ap (tally_method t) y')
+            (G.new_method_grown s t w d.fits a e d.from d.to (method_name_short s a e d.to b good y) i few_lines q k h v z (is_first_method t.stage) refl)
             (kept w (rw z (simp length-set)) (omega (arith, few_lines))))
 
 -- ---- by the kind of record
-module _ (s : Text) (t : Tally) (w : List ℕ) (a e : ℕ) (k : Kind) (r : Stepped) (left : List ℕ) where
+module _ (s : Text) (t : Tally) (w : List ℕ) (a e : ℕ) (k : Kind) (r : Result Tally Fault) (left : List ℕ) where
   pub field_role : k ≡ Role → Steps check_role add_role s t w a e r left → Steps (field_check k) (field_add k) s t w a e r left
   unfolding field_check field_add
   field_role q h = rw q h
@@ -286,26 +280,24 @@ module _ (s : Text) (t : Tally) (w : List ℕ) (a e : ℕ) (k : Kind) (r : Stepp
   unfolding field_check field_add
   field_pattern q h = rw q h
 
-  pub field_method : k ≡ Method → Steps check_method add_method s t w a e r left → Steps (field_check k) (field_add k) s t w a e r left
+  pub field_line : (omits : Bool) → (k ≡ Method) ⊎ (k ≡ Omit) → (k ≡ Method → omits ≡ false) → (k ≡ Omit → omits ≡ true)
+      → Steps check_method (add_line omits) s t w a e r left → Steps (field_check k) (field_add k) s t w a e r left
   unfolding field_check field_add
-  field_method q h = rw q h
-
-  pub field_omit : k ≡ Omit → Steps check_method add_omit s t w a e r left → Steps (field_check k) (field_add k) s t w a e r left
-  unfolding field_check field_add
-  field_omit q h = rw q h
+  field_line omits (inl q) m o h = let h' = rw (m q) at h in rw q h'
+  field_line omits (inr q) m o h = let h' = rw (o q) at h in rw q h'
 
 pub field_end : (s : Text) (t r : Tally) (w : List ℕ) (a e : ℕ) (k : Kind) → Field s t w a e → k ≡ End → r ≡ tally_at t AfterEnd
-    → Steps (field_check k) (field_add k) s t w a e (Next r) w
+    → Steps (field_check k) (field_add k) s t w a e (Ok r) w
 unfolding field_check field_add tables_at
 field_end s t r w a e k d q m = rw (q, m) (record { answer = refl; fits = omega arith })
 
 -- ---- in a wrong place, and one that may follow
 module _ (s : Text) (t : Tally) (w : List ℕ) (a e : ℕ) (k : Kind) (left : List ℕ) (b : Bool) (good : b ≡ may_follow t.stage k) where
-  pub step_misplaced : not b ≡ true → StepOutcome s (step_from (tables_at s t w) (record_with k (part a e s))) (Wrong WrongPlace) left
+  pub step_misplaced : not b ≡ true → StepOutcome s (step_from (tables_at s t w) (record_with k (part a e s))) (Err WrongPlace) left
   unfolding step_from check_record tables_at
   step_misplaced y = rw (← good, not-true b y) (record { answer = refl; fits = tt })
 
-  pub step_placed : (r : Stepped) → not b ≡ false → Steps (field_check k) (field_add k) s t w a e r left
+  pub step_placed : (r : Result Tally Fault) → not b ≡ false → Steps (field_check k) (field_add k) s t w a e r left
       → StepOutcome s (step_from (tables_at s t w) (record_with k (part a e s))) r left
   unfolding step_from check_record tables_at
   step_placed r y h = rw (← good, not-false b y) h

@@ -6,12 +6,12 @@ use Prim.Native.Nat.{ℕ, zero, suc, ◌+◌, ◌-◌, ◌*◌, ◌/◌, ◌%◌
 use native.Mathlib.Nat.{add-sub_cancel_left, add-zero}
 use native.Mathlib.Numerals.{add-one}
 use native.Mathlib.Omega.{arith}
-use native.Mathlib.Decide.{dec_lt}
+use native.Mathlib.Decide.{dec_lt, dec_le}
 use lib.ListN.{length, take, drop, get_or, set, length-take, length-drop, length-map, drop_of_length-le, get_or-map}
 use lib.Seq.{take-set-le, drop-set-lt, drop-set-add, take-suc, take-suc-set, get_or-take, get_or-drop, drop-cons, take-nil}
 use lib.Arith.{digits_div, digits_mod}
 use borrow.Author.Tests.{lt-ltb, le-ltb, eq-eqb, ne_eqb, eqb-true, eqb-false, le-leb, lt-leb}
-use lib.Dec.{eqb}
+use lib.Dec.{eqb, leb}
 use Rattle.text.specs.Texts.{Text, same, starts_with, on_last, part, index_of}
 use Rattle.entries.specs.Tables.{region, stamp_of, packed, stamped, text_at, texts_at, Skips, indexed, spanned, span_at, spans_at}
 use Rattle.text.proofs.Truths.{not_so}
@@ -26,17 +26,17 @@ stamp_none [] h = refl
 stamp_none (x ∷ xs) h = absurd (omega arith)
 
 -- that of a single byte
-pub stamp_one : (t : Text) (x : ℕ) → length t ≡ 1 → x ≡ get_or t (length t - 1) 0 → x % 256 * 17 % 256 * 256 + 1 ≡ stamp_of t
+pub stamp_one : (t : Text) (x : ℕ) → 1 ≤ length t → length t < 2 → x ≡ get_or t 0 0 → x * 17 % 256 * 256 + 1 ≡ stamp_of t
 unfolding stamp_of
-stamp_one [] x l e = absurd (omega arith)
-stamp_one (b ∷ []) x l e = rw e (omega arith)
-stamp_one (b ∷ c ∷ bs) x l e = absurd (omega arith)
+stamp_one [] x l k e = absurd (omega arith)
+stamp_one (b ∷ []) x l k e = rw e (omega arith)
+stamp_one (b ∷ c ∷ bs) x l k e = absurd (omega arith)
 
 -- another text's
 pub stamp_last : (t : Text) (x y : ℕ) → x ≡ get_or t (length t - 1) 0 → y ≡ get_or t (length t - 2) 0
-    → (y % 256 * 16 + x % 256) % 256 * 256 + length t % 256 ≡ stamp_of t
+    → (y * 16 + x) % 256 * 256 + length t % 256 ≡ stamp_of t
 unfolding stamp_of
-stamp_last t x y e f = rw (e, f)
+stamp_last t x y e f = rw (e, f) (omega arith)
 
 -- 16 digits
 stamp_small : (t : Text) → stamp_of t < 65536
@@ -65,11 +65,18 @@ stamp_differs s x t key e n m =
     sym (not_so _ (λ q. stamped_differs u t (x % 65536) (λ z. n (z ∙ sym e)) m (same_equal _ _ q)))
 
 -- none is named by what names the empty text
-pub empty_named : (t u v : Text) → length t ≡ 0 → u ≡ v → eqb (length u) 0 ≡ same v t
+pub empty_named : (t u v : Text) (r : Bool) → length t ≡ 0 → u ≡ v → r ≡ eqb (length u) 0 → r ≡ same v t
 unfolding same
-empty_named [] u [] l e = rw e
-empty_named [] u (x ∷ xs) l e = rw (e, ne_eqb (length (x ∷ xs)) 0 (λ z. omega arith))
-empty_named (b ∷ bs) u v l e = absurd (omega arith)
+empty_named [] u [] r l e q = rw (q, e)
+empty_named [] u (x ∷ xs) r l e q = rw (q, e, ne_eqb (length (x ∷ xs)) 0 (λ z. omega arith))
+empty_named (b ∷ bs) u v r l e q = absurd (omega arith)
+
+-- what the test for the empty text says
+pub no_byte : (t : Text) (b : Bool) → b ≡ eqb (length t) 0 → b ≡ true → length t ≡ 0
+no_byte t b e y = eqb-true (length t) 0 (sym e ∙ y)
+
+pub some_byte : (t : Text) (b : Bool) → b ≡ eqb (length t) 0 → b ≡ false → length t ≡ 0 → ⊥
+some_byte t b e n = eqb-false (length t) 0 (sym e ∙ n)
 
 -- a number names no text of 256 bytes or more
 pub long_unnamed : (s : Text) (x : ℕ) (t : Text) → 255 < length t → false ≡ same (text_at s x) t
@@ -97,7 +104,7 @@ starts_taken t d = go (dec_lt (length d) (length t))
     go (no l) = sym (starts_same t d (omega arith)) ∙ same_swap t (take (length t) d)
 
 -- with t's stamp it names t exactly where t stands at its offset
-module _ (s : Text) (x : ℕ) (t : Text) (key : ℕ) (q : key ≡ stamp_of t) (e : x % 65536 ≡ key) (few : length t ≤ 255) (some_byte : length t ≡ 0 → ⊥) where
+module _ (s : Text) (x : ℕ) (t : Text) (key : ℕ) (q : key ≡ stamp_of t) (e : x % 65536 ≡ key) (few : length t ≤ 255) (full : length t ≡ 0 → ⊥) where
   size : x % 256 ≡ length t
   size =
       let l : stamp_of t % 256 ≡ length t % 256 = stamp_length t in
@@ -116,32 +123,22 @@ module _ (s : Text) (x : ℕ) (t : Text) (key : ℕ) (q : key ≡ stamp_of t) (e
       go true b = refl
       go false b =
           not_so (same u t) (λ y. eqb-false (stamp_of u) (x % 65536) b (ap stamp_of (same_equal u t y) ∙ sym q ∙ sym e))
-          ∙ same_lengths [] t (λ z. some_byte (sym z))
+          ∙ same_lengths [] t (λ z. full (sym z))
 
-  pub stands_named : (f : ℕ) (r : Bool) → f ≡ x / 65536 → r ≡ starts_with t (part f (length s) s) → r ≡ same (text_at s x) t
-  stands_named f r p h = h ∙ ap (starts_with t) (from_on f s ∙ ap (λ (k : ℕ). drop k s) p) ∙ starts_taken t (drop (x / 65536) s) ∙ there_named
+  pub stands_named : (r : Bool) → r ≡ starts_with t (part (x / 65536) (length s) s) → r ≡ same (text_at s x) t
+  stands_named r h = h ∙ ap (starts_with t) (from_on (x / 65536) s) ∙ starts_taken t (drop (x / 65536) s) ∙ there_named
 
-  pub past_unnamed : (f : ℕ) → f ≡ x / 65536 → length s < f → false ≡ same (text_at s x) t
-  past_unnamed f p h =
+  pub past_unnamed : length s < x / 65536 → leb (x / 65536) (length s) ≡ same (text_at s x) t
+  past_unnamed h =
       let l : length s ≤ x / 65536 = omega arith in
       let d : drop (x / 65536) s ≡ [] = drop_of_length-le s l in
-      same_lengths [] t (λ z. some_byte (sym z)) ∙ ap (λ (l : Text). same l t) (sym (ap (take (length t)) d ∙ take-nil (length t))) ∙ there_named
+      lt-leb _ _ h
+      ∙ same_lengths [] t (λ z. full (sym z)) ∙ ap (λ (l : Text). same l t) (sym (ap (take (length t)) d ∙ take-nil (length t))) ∙ there_named
 
 -- ---- a number's text, as the code takes it out
-module _ (s : Text) (x f n : ℕ) (p : f ≡ x / 65536) (q : n ≡ x % 256) where
-  there : take (f + n - f) (drop f s) ≡ take (x % 256) (drop (x / 65536) s)
-  there = rw (add-sub_cancel_left, p, q)
-
-  pub text_in : (k : ℕ) → k ≡ stamp_of (part f (f + n) s) → k ≡ x % 65536 → part f (f + n) s ≡ text_at s x
-  unfolding text_at stamped
-  text_in k e h = there ∙ sym (rw (eq-eqb _ _ (ap stamp_of (sym there) ∙ sym e ∙ h)))
-
-  pub text_other : (k : ℕ) → k ≡ stamp_of (part f (f + n) s) → (k ≡ x % 65536 → ⊥) → [] ≡ text_at s x
-  unfolding text_at stamped
-  text_other k e h = sym (rw (ne_eqb _ _ (λ z. h (e ∙ ap stamp_of there ∙ z))))
-
+module _ (s : Text) (x : ℕ) where
   -- what would run past the end is shorter than the number says, or empty
-  pub text_out : length s < f + n → [] ≡ text_at s x
+  text_out : length s < x / 65536 + x % 256 → [] ≡ text_at s x
   unfolding text_at stamped
   text_out h = go (x % 256) refl
     where
@@ -159,6 +156,36 @@ module _ (s : Text) (x f n : ℕ) (p : f ≡ x / 65536) (q : n ≡ x % 256) wher
           let i : length u % 256 ≡ length u = omega arith in
           let o : x % 65536 % 256 ≡ x % 256 = omega arith in
           sym (rw (ne_eqb _ _ (λ k. let j : length u ≡ x % 256 = sym (sym (ap (λ (y : ℕ). y % 256) k ∙ o) ∙ stamp_length u ∙ i) in omega arith)))
+
+  -- the number of its offset and its length alone
+  text_span : span_at s (x / 65536 * 65536 + x % 256) ≡ cond (leb (x / 65536 + x % 256) (length s)) (take (x % 256) (drop (x / 65536) s)) []
+  unfolding span_at
+  text_span =
+      let a : (x / 65536 * 65536 + x % 256) / 65536 ≡ x / 65536 = omega arith in
+      let b : (x / 65536 * 65536 + x % 256) % 65536 ≡ x % 256 = omega arith in
+      rw (a, b)
+
+  stamped_none : (b : Bool) → ◌≡◌ {A = Text} (cond b [] []) []
+  stamped_none true = refl
+  stamped_none false = refl
+
+  -- the text of that number, if it has the stamp
+  module _ (u : Text) (e : u ≡ span_at s (x / 65536 * 65536 + x % 256)) (k : ℕ) (q : k ≡ stamp_of u) where
+    text_if : cond (eqb k (x % 65536)) u [] ≡ text_at s x
+    unfolding text_at stamped
+    text_if = go (dec_le (x / 65536 + x % 256) (length s))
+      where
+        go : Dec (x / 65536 + x % 256 ≤ length s) → cond (eqb k (x % 65536)) u [] ≡ text_at s x
+        go (yes h) = rw (q, e, text_span, le-leb _ _ h)
+        go (no h) =
+            let l : length s < x / 65536 + x % 256 = omega arith in
+            rw (e, text_span, lt-leb _ _ l, stamped_none (eqb k (x % 65536))) (text_out l)
+
+    pub text_in : k ≡ x % 65536 → u ≡ text_at s x
+    text_in h = sym (rw (eq-eqb _ _ h)) ∙ text_if
+
+    pub text_other : (k ≡ x % 65536 → ⊥) → [] ≡ text_at s x
+    text_other h = sym (rw (ne_eqb _ _ h)) ∙ text_if
 
 -- the number that names the text from a up to e
 pub text_part : (s : Text) (a e : ℕ) → a ≤ e → e ≤ length s → e - a < 256 → text_at s (packed s a e) ≡ part a e s
@@ -277,9 +304,6 @@ region_last w a (suc n) f h =
     ∙ sym (ap (on_last f) (region_snoc w (a + 1) n k) ∙ on_last_snoc f (region w (a + 1) n) (get_or w (a + 1 + n) 0)))
 
 -- ---- the search among the texts that a region's numbers name
-pub index_start : (t : Text) (us : List Text) (k : ℕ) → Skips t us 0 k → index_of t us ≡ k + index_of t (drop k us)
-index_start t us k h = sym (omega arith) ∙ h
-
 module _ (s t : Text) (w : List ℕ) (a n k : ℕ) (room : a + n ≤ length w) where
   texts_next : k < n → drop k (texts_at s (region w a n)) ≡ text_at s (get_or w (a + k) 0) ∷ drop (k + 1) (texts_at s (region w a n))
   unfolding texts_at
@@ -295,19 +319,9 @@ module _ (s t : Text) (w : List ℕ) (a n k : ℕ) (room : a + n ≤ length w) w
     unfolding index_of
     index_hit r h q y = sym (v ∙ rw (texts_next h, ← q, y) (add-zero k))
 
-    index_miss : (r : Bool) → k < n → r ≡ same (text_at s (get_or w (a + k) 0)) t → r ≡ false → m ≡ k + 1 + index_of t (drop (k + 1) (texts_at s (region w a n)))
+    pub index_miss : (r : Bool) → k < n → r ≡ same (text_at s (get_or w (a + k) 0)) t → r ≡ false → m ≡ k + 1 + index_of t (drop (k + 1) (texts_at s (region w a n)))
     unfolding index_of
     index_miss r h q y = v ∙ rw (texts_next h, ← q, y) (omega arith)
-
-    -- the k-th is not, and then it is found where it is from j on
-    pub index_on : (r : Bool) (j : ℕ) → k < n → r ≡ same (text_at s (get_or w (a + k) 0)) t → r ≡ false → Skips t (texts_at s (region w a n)) (k + 1) j
-        → m ≡ j + index_of t (drop j (texts_at s (region w a n)))
-    index_on r j h q y e = index_miss r h q y ∙ e
-
-    -- the k-th has another stamp
-    pub index_other : (key : ℕ) → k < n → key ≡ stamp_of t → (get_or w (a + k) 0 % 65536 ≡ key → ⊥) → (length t ≡ 0 → ⊥)
-        → m ≡ k + 1 + index_of t (drop (k + 1) (texts_at s (region w a n)))
-    index_other key h e d o = index_miss false h (stamp_differs s (get_or w (a + k) 0) t key e d o) refl
 
     pub index_none : n ≤ k → k ≡ m
     unfolding index_of

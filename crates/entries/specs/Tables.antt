@@ -1,5 +1,5 @@
 -- The work table: what stands in it as lists, what a record does to them, and the numbers that hold them.
-use Rattle.std.specs.Prelude.{ℕ, ◌+◌, ◌-◌, ◌*◌, ◌/◌, ◌%◌, ◌≤◌, ◌≡◌, not, cond, List, [], ◌∷◌, ◌++◌, map, length, take, drop, get_or, eqb, ltb, leb}
+use Rattle.std.specs.Prelude.{ℕ, ◌+◌, ◌-◌, ◌*◌, ◌/◌, ◌%◌, ◌≤◌, ◌≡◌, Bool, true, false, not, cond, List, [], ◌∷◌, ◌++◌, map, length, take, drop, get_or, eqb, ltb, leb, Result, Ok, Err}
 use Rattle.std.proofs.Math.Option.{Option, none, some}
 use Rattle.std.specs.Int.Bits.{bit_or}
 use Rattle.text.specs.Texts.{Text, bytes, same, run, on_last, part, index_of}
@@ -16,8 +16,6 @@ use Rattle.listings.specs.declared.records.Stage.TheVariants.{AfterFirst, AfterR
 use Rattle.listings.specs.declared.answers.Fault.{Fault}
 use Rattle.listings.specs.declared.answers.Fault.TheVariants.{WrongPlace, BadName, BadPattern, RoleTwice, PastMost}
 use Rattle.entries.specs.declared.tables.Tally.{Tally}
-use Rattle.entries.specs.declared.steps.Stepped.{Stepped}
-use Rattle.entries.specs.declared.steps.Stepped.TheVariants.{Next, Wrong}
 
 -- ---- what stands in the table, as lists
 -- stage and lines: where the reader stands, and the `method` and `omit` lines so far
@@ -171,6 +169,19 @@ add_omit T m = record {
   allows = T.allows;
   accesses = T.accesses;
 }
+
+-- what `method⇥NAME` adds, or `omit⇥NAME` where the line omits: the set of methods that it leaves, and the stage
+abbrev pub add_line : Bool → Tables → Text → Tables
+add_line true T m = add_omit T m
+add_line false T m = add_method T m
+
+abbrev pub marked : Bool → Bool → ℕ → ℕ → ℕ
+marked true fresh x i = without_member x i
+marked false fresh x i = with_member (cond fresh 0 x) i
+
+abbrev pub stage_behind : Bool → Stage
+stage_behind true = AfterOmit
+stage_behind false = AfterMethod
 
 abbrev pub add_end : Tables → Text → Tables
 add_end T t = record {
@@ -376,15 +387,15 @@ pub record Fits (s : Text) (t : Tally) (w : List ℕ) : Type 0 where
   pub constraints : t.constraints ≤ most_constraints
 
 -- ---- the program's answers in those terms
-abbrev pub step_shown : Text → Stepped → List ℕ → Stepping
-step_shown s (Next t) w = next (tables_at s t w)
-step_shown s (Wrong f) w = wrong f
+abbrev pub step_shown : Text → Result Tally Fault → List ℕ → Stepping
+step_shown s (Ok t) w = next (tables_at s t w)
+step_shown s (Err f) w = wrong f
 
-abbrev pub StepFits : Text → Stepped → List ℕ → Type 0
-StepFits s (Next t) w = Fits s t w
-StepFits s (Wrong f) w = Unit {0}
+abbrev pub StepFits : Text → Result Tally Fault → List ℕ → Type 0
+StepFits s (Ok t) w = Fits s t w
+StepFits s (Err f) w = Unit {0}
 
-pub record StepOutcome (s : Text) (due : Stepping) (out : Stepped) (w : List ℕ) : Type 0 where
+pub record StepOutcome (s : Text) (due : Stepping) (out : Result Tally Fault) (w : List ℕ) : Type 0 where
   pub answer : step_shown s out w ≡ due
   pub fits : StepFits s out w
 
@@ -395,6 +406,6 @@ pub record Field (s : Text) (t : Tally) (w : List ℕ) (a e : ℕ) : Type 0 wher
   pub to : e ≤ length s
 
 -- the outcome of a step with the field from a up to e
-abbrev pub Steps : (Tables → Text → Option Fault) → (Tables → Text → Tables) → Text → Tally → List ℕ → ℕ → ℕ → Stepped → List ℕ → Type 0
+abbrev pub Steps : (Tables → Text → Option Fault) → (Tables → Text → Tables) → Text → Tally → List ℕ → ℕ → ℕ → Result Tally Fault → List ℕ → Type 0
 Steps check add s t w a e out left =
     StepOutcome s (stepped_by (check (tables_at s t w) (part a e s)) (add (tables_at s t w) (part a e s))) out left

@@ -1,8 +1,9 @@
-// What one record does: it is refused, or the table grows by it. A record is its kind and its field, the bytes of s from a up to e.
-ghost use Rattle.std.specs.Prelude.{◌≡◌};
+// What one record does: it is refused for the rule that it breaks, or the table grows by it and its counts are handed back. A record is its kind and its field, the bytes of s from a up to e.
+ghost use Rattle.std.specs.Prelude.{◌≡◌, ◌+◌, ◌≤◌, ◌<◌, length, set, get_or};
+ghost use Rattle.listings.specs.Heads.{is_first_method};
 ghost use Rattle.text.specs.Texts.{all, part};
 ghost use Rattle.text.specs.Bytes.{is_text};
-ghost use Rattle.entries.specs.Tables.{Field, Steps, StepOutcome, step_from, check_role, check_constraint, check_allow, check_collection, check_pattern, check_method, field_check, add_role, add_constraint, add_allow, add_collection, add_pattern, add_method, add_omit, field_add, tables_at, record_with};
+ghost use Rattle.entries.specs.Tables.{Field, Steps, StepOutcome, step_from, check_role, check_constraint, check_allow, check_collection, check_pattern, check_method, field_check, add_role, add_constraint, add_allow, add_collection, add_pattern, add_line, marked, stage_behind, field_add, tables_at, record_with};
 
 use crate::tables;
 use crate::tables::Tally;
@@ -12,54 +13,61 @@ use listings::records;
 use listings::records::{Kind, Stage};
 use text::texts;
 
-// What a record comes to: the counts with it, or the rule that it breaks.
-#[derive(Clone, Copy)]
-pub enum Stepped {
-    Next(Tally),
-    Wrong(Fault),
-}
-
 // `role⇥NAME`
-pub fn role(s: &[u8], w: &mut [u32], t: Tally, a: usize, e: usize, clean: bool) -> Stepped
+pub fn role(
+    s: &[u8],
+    w: &mut [u32],
+    t: Tally,
+    a: usize,
+    e: usize,
+    clean: bool,
+) -> Result<Tally, Fault>
     requires { Field s.now t w.old a e × (clean ≡ all is_text (part a e s.now)) }
     ensures { Steps check_role add_role s.now t w.old a e result w.new }
 {
     let n = t.roles;
     if !names::is_role_name(&s[a..e], clean) {
-        return Stepped::Wrong(Fault::BadName);
+        return Err(Fault::BadName);
     }
     if tables::index(s, w, tables::ROLES, n, &s[a..e]) < n {
-        return Stepped::Wrong(Fault::RoleTwice);
+        return Err(Fault::RoleTwice);
     }
     if most(Counted::Roles) <= n {
-        return Stepped::Wrong(Fault::PastMost);
+        return Err(Fault::PastMost);
     }
     tables::put_text(s, w, tables::ROLES + n, a, e);
-    Stepped::Next(t.with_role())
+    Ok(t.with_role())
 }
 
 // `constraint⇥open` and `constraint⇥auth`
-pub fn constraint(s: &[u8], w: &mut [u32], t: Tally, a: usize, e: usize) -> Stepped
+pub fn constraint(s: &[u8], w: &mut [u32], t: Tally, a: usize, e: usize) -> Result<Tally, Fault>
     requires { Field s.now t w.old a e }
     ensures { Steps check_constraint add_constraint s.now t w.old a e result w.new }
 {
     let n = t.constraints;
     if !names::is_constraint_kind(&s[a..e]) {
-        return Stepped::Wrong(Fault::BadName);
+        return Err(Fault::BadName);
     }
     if most(Counted::Constraints) <= n {
-        return Stepped::Wrong(Fault::PastMost);
+        return Err(Fault::PastMost);
     }
     if texts::are_same(&s[a..e], b"open") {
         tables::put_constraint(w, n, 0);
-        return Stepped::Next(t.with_constraint(Stage::AfterOpen));
+        return Ok(t.with_constraint(Stage::AfterOpen));
     }
     tables::put_constraint(w, n, 1);
-    Stepped::Next(t.with_constraint(Stage::AfterAuth))
+    Ok(t.with_constraint(Stage::AfterAuth))
 }
 
 // `allow⇥NAME` and `allow⇥*`
-pub fn allow(s: &[u8], w: &mut [u32], t: Tally, a: usize, e: usize, clean: bool) -> Stepped
+pub fn allow(
+    s: &[u8],
+    w: &mut [u32],
+    t: Tally,
+    a: usize,
+    e: usize,
+    clean: bool,
+) -> Result<Tally, Fault>
     requires { Field s.now t w.old a e × (clean ≡ all is_text (part a e s.now)) }
     ensures { Steps check_allow add_allow s.now t w.old a e result w.new }
 {
@@ -67,40 +75,47 @@ pub fn allow(s: &[u8], w: &mut [u32], t: Tally, a: usize, e: usize, clean: bool)
     let c = t.constraints;
     let declared = t.declared;
     if !names::is_name(&s[a..e], clean) {
-        return Stepped::Wrong(Fault::BadName);
+        return Err(Fault::BadName);
     }
     if names::is_star(&s[a..e]) {
         tables::allow_declared(w, c, declared);
-        return Stepped::Next(t.at(Stage::AfterAllow));
+        return Ok(t.at(Stage::AfterAllow));
     }
     let i = tables::index(s, w, tables::ROLES, n, &s[a..e]);
     if i < n {
         tables::allow_role(w, c, i);
-        return Stepped::Next(t.at(Stage::AfterAllow));
+        return Ok(t.at(Stage::AfterAllow));
     }
     if most(Counted::Roles) <= n {
-        return Stepped::Wrong(Fault::PastMost);
+        return Err(Fault::PastMost);
     }
     tables::put_text(s, w, tables::ROLES + n, a, e);
     tables::allow_role(w, c, n);
-    Stepped::Next(t.with_allowed())
+    Ok(t.with_allowed())
 }
 
 // `collection`
-pub fn collection(s: &[u8], w: &mut [u32], t: Tally, a: usize, e: usize) -> Stepped
+pub fn collection(s: &[u8], w: &mut [u32], t: Tally, a: usize, e: usize) -> Result<Tally, Fault>
     requires { Field s.now t w.old a e }
     ensures { Steps check_collection add_collection s.now t w.old a e result w.new }
 {
     let n = t.collections;
     if most(Counted::Collections) <= n {
-        return Stepped::Wrong(Fault::PastMost);
+        return Err(Fault::PastMost);
     }
     w[tables::COVERS + 1 + n] = 4294967295;
-    Stepped::Next(t.with_collection())
+    Ok(t.with_collection())
 }
 
 // `pattern⇥TEXT`
-pub fn pattern(s: &[u8], w: &mut [u32], t: Tally, a: usize, e: usize, clean: bool) -> Stepped
+pub fn pattern(
+    s: &[u8],
+    w: &mut [u32],
+    t: Tally,
+    a: usize,
+    e: usize,
+    clean: bool,
+) -> Result<Tally, Fault>
     requires { Field s.now t w.old a e × (clean ≡ all is_text (part a e s.now)) }
     ensures { Steps check_pattern add_pattern s.now t w.old a e result w.new }
 {
@@ -108,69 +123,69 @@ pub fn pattern(s: &[u8], w: &mut [u32], t: Tally, a: usize, e: usize, clean: boo
     let c = t.collections;
     let k = t.constraints;
     if !names::is_pattern(&s[a..e], clean) {
-        return Stepped::Wrong(Fault::BadPattern);
+        return Err(Fault::BadPattern);
     }
     if most(Counted::Patterns) <= n {
-        return Stepped::Wrong(Fault::PastMost);
+        return Err(Fault::PastMost);
     }
     tables::put_pattern(w, n, a, e, c, k);
-    Stepped::Next(t.with_pattern())
+    Ok(t.with_pattern())
 }
 
-// `method⇥NAME`
-pub fn method(s: &[u8], w: &mut [u32], t: Tally, a: usize, e: usize) -> Stepped
+// What a line on method i does to its collection: `omit` takes the method out, `method` puts it in.
+fn mark(w: &mut [u32], t: Tally, omits: bool, i: usize)
+    requires { (448 + t.collections < length w.old) × ((t.collections ≤ 128) × (i < 32)) }
+    ensures { w.new ≡ set w.old (448 + t.collections) (marked omits (is_first_method t.stage) (get_or w.old (448 + t.collections) 0) i) }
+{
+    if omits {
+        tables::uncover(w, t.collections, i);
+    } else {
+        tables::cover(w, t.collections, t.stage == Stage::AfterPattern, i);
+    }
+}
+
+// Where such a line leaves the reader.
+fn stage_behind(omits: bool) -> Stage
+    ensures { result ≡ stage_behind omits }
+{
+    if omits {
+        Stage::AfterOmit
+    } else {
+        Stage::AfterMethod
+    }
+}
+
+// `method⇥NAME`, or `omit⇥NAME` where the line omits. One function, called at one place: twice in the code it would be slower.
+pub fn method(
+    s: &[u8],
+    w: &mut [u32],
+    t: Tally,
+    a: usize,
+    e: usize,
+    omits: bool,
+) -> Result<Tally, Fault>
     requires { Field s.now t w.old a e }
-    ensures { Steps check_method add_method s.now t w.old a e result w.new }
+    ensures { Steps check_method (add_line omits) s.now t w.old a e result w.new }
 {
     let n = t.methods;
-    let lines = t.lines;
-    let c = t.collections;
-    let stage = t.stage;
-    let fresh = records::is_first_method(stage);
+    let stage = stage_behind(omits);
     if !names::is_method_name(&s[a..e]) {
-        return Stepped::Wrong(Fault::BadName);
+        return Err(Fault::BadName);
     }
-    if most(Counted::MethodLines) <= lines {
-        return Stepped::Wrong(Fault::PastMost);
+    if most(Counted::MethodLines) <= t.lines {
+        return Err(Fault::PastMost);
     }
     let i = tables::index(s, w, tables::METHODS, n, &s[a..e]);
     if i < n {
-        tables::cover(w, c, fresh, i);
-        return Stepped::Next(t.with_line(Stage::AfterMethod));
+        mark(w, t, omits, i);
+        return Ok(t.with_line(stage));
     }
     if most(Counted::Methods) <= n {
-        return Stepped::Wrong(Fault::PastMost);
+        return Err(Fault::PastMost);
     }
     tables::put_text(s, w, tables::METHODS + n, a, e);
-    tables::cover(w, c, fresh, n);
-    Stepped::Next(t.with_method(Stage::AfterMethod))
-}
-
-// `omit⇥NAME`
-pub fn omit(s: &[u8], w: &mut [u32], t: Tally, a: usize, e: usize) -> Stepped
-    requires { Field s.now t w.old a e }
-    ensures { Steps check_method add_omit s.now t w.old a e result w.new }
-{
-    let n = t.methods;
-    let lines = t.lines;
-    let c = t.collections;
-    if !names::is_method_name(&s[a..e]) {
-        return Stepped::Wrong(Fault::BadName);
-    }
-    if most(Counted::MethodLines) <= lines {
-        return Stepped::Wrong(Fault::PastMost);
-    }
-    let i = tables::index(s, w, tables::METHODS, n, &s[a..e]);
-    if i < n {
-        tables::uncover(w, c, i);
-        return Stepped::Next(t.with_line(Stage::AfterOmit));
-    }
-    if most(Counted::Methods) <= n {
-        return Stepped::Wrong(Fault::PastMost);
-    }
-    tables::put_text(s, w, tables::METHODS + n, a, e);
-    tables::uncover(w, c, n);
-    Stepped::Next(t.with_method(Stage::AfterOmit))
+    mark(w, t, omits, n);
+    Ok(t.with_method(stage))
 }
 
 // A record of kind k that may follow.
@@ -182,7 +197,7 @@ pub fn field(
     a: usize,
     e: usize,
     clean: bool,
-) -> Stepped
+) -> Result<Tally, Fault>
     requires { Field s.now t w.old a e × (clean ≡ all is_text (part a e s.now)) }
     ensures { Steps (field_check k) (field_add k) s.now t w.old a e result w.new }
 {
@@ -192,9 +207,8 @@ pub fn field(
         Kind::Allow => allow(s, w, t, a, e, clean),
         Kind::Collection => collection(s, w, t, a, e),
         Kind::Pattern => pattern(s, w, t, a, e, clean),
-        Kind::Method => method(s, w, t, a, e),
-        Kind::Omit => omit(s, w, t, a, e),
-        Kind::End => Stepped::Next(t.at(Stage::AfterEnd)),
+        Kind::Method | Kind::Omit => method(s, w, t, a, e, k == Kind::Omit),
+        Kind::End => Ok(t.at(Stage::AfterEnd)),
     }
 }
 
@@ -207,13 +221,12 @@ pub fn step(
     a: usize,
     e: usize,
     clean: bool,
-) -> Stepped
+) -> Result<Tally, Fault>
     requires { Field s.now t w.old a e × (clean ≡ all is_text (part a e s.now)) }
     ensures { StepOutcome s.now (step_from (tables_at s.now t w.old) (record_with k (part a e s.now))) result w.new }
 {
-    let stage = t.stage;
-    if !records::may_follow(stage, k) {
-        return Stepped::Wrong(Fault::WrongPlace);
+    if !records::may_follow(t.stage, k) {
+        return Err(Fault::WrongPlace);
     }
     field(s, w, t, k, a, e, clean)
 }

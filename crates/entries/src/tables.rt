@@ -46,29 +46,6 @@ pub fn wide(x: u32) -> usize
     x as usize
 }
 
-// The same number.
-pub fn of_byte(b: u8) -> u32
-    ensures { result ≡ b }
-{
-    b as u32
-}
-
-// The last two bytes of t and its length, as a number's last 16 digits hold them. Names often begin alike, and end in a number.
-pub fn stamp(t: &[u8]) -> u32
-    ensures is { result ≡ stamp_of t.now }
-    ensures small { result < 65536 }
-{
-    if t.len() == 0 {
-        return 0;
-    }
-    let last = of_byte(t[t.len() - 1]);
-    if t.len() == 1 {
-        return last % 256 * 17 % 256 * 256 + 1;
-    }
-    let before = of_byte(t[t.len() - 2]);
-    (before % 256 * 16 + last % 256) % 256 * 256 + (t.len() % 256) as u32
-}
-
 // A set of roles is 64 bits wide above this crate.
 pub fn wide_set(x: u32) -> u64
     ensures { result ≡ x }
@@ -76,20 +53,16 @@ pub fn wide_set(x: u32) -> u64
     x as u64
 }
 
-// The text that the number x names: its offset, its last byte and its length; none where the text there has another stamp.
-pub fn text_at(s: &[u8], x: u32) -> &[u8]
-    ensures { result.now ≡ text_at s.now x }
+// The last two bytes of t and its length, as a number's last 16 digits hold them. Names often begin alike, and end in a number.
+pub fn stamp(t: &[u8]) -> u32
+    ensures is { result ≡ stamp_of t.now }
+    ensures small { result < 65536 }
 {
-    let from = wide(x / 65536);
-    let n = wide(x % 256);
-    let to = from + n;
-    if s.len() < to {
-        return &s[0..0];
-    }
-    if stamp(&s[from..to]) == x % 65536 {
-        &s[from..to]
-    } else {
-        &s[0..0]
+    match t {
+        [] => 0,
+        [only] => u32::from(*only) * 17 % 256 * 256 + 1,
+        [.., before, last] => (u32::from(*before) * 16 + u32::from(*last)) % 256 * 256
+            + (t.len() % 256) as u32,
     }
 }
 
@@ -97,13 +70,24 @@ pub fn text_at(s: &[u8], x: u32) -> &[u8]
 pub fn span_at(s: &[u8], x: u32) -> &[u8]
     ensures { result.now ≡ span_at s.now x }
 {
-    let from = wide(x / 65536);
-    let n = wide(x % 65536);
-    let to = from + n;
+    let from = (x / 65536) as usize;
+    let to = from + (x % 65536) as usize;
     if s.len() < to {
         return &s[0..0];
     }
     &s[from..to]
+}
+
+// The text that the number x names: its offset, its last byte and its length; none where the text there has another stamp.
+pub fn text_at(s: &[u8], x: u32) -> &[u8]
+    ensures { result.now ≡ text_at s.now x }
+{
+    let text = span_at(s, x / 65536 * 65536 + x % 256);
+    if stamp(text) == x % 65536 {
+        text
+    } else {
+        &s[0..0]
+    }
 }
 
 // Whether x names t, whose stamp is `key`. With that stamp it does if t stands at its offset; with another it does not, unless t is empty.
@@ -111,48 +95,14 @@ pub fn is_named(s: &[u8], x: u32, key: u32, t: &[u8]) -> bool
     requires { key ≡ stamp_of t.now }
     ensures { result ≡ same (text_at s.now x) t.now }
 {
-    if t.len() == 0 {
-        return text_at(s, x).len() == 0;
+    if t.is_empty() {
+        return text_at(s, x).is_empty();
     }
-    if x % 65536 != key {
+    if x % 65536 != key || 255 < t.len() {
         return false;
     }
-    if 255 < t.len() {
-        return false;
-    }
-    let from = wide(x / 65536);
-    if s.len() < from {
-        return false;
-    }
-    texts::starts_with(t, &s[from..])
-}
-
-// Of the n numbers from `base` on, the index of the next, from index `from` on, that may name t: it has t's stamp, which is `key`, or t is
-// empty. A loop of its own, since most numbers are passed by here.
-pub fn past_others(
-    s: &[u8],
-    w: &[u32],
-    base: usize,
-    n: usize,
-    from: usize,
-    key: u32,
-    t: &[u8],
-) -> usize
-    requires { (base + n ≤ length w.now) × (key ≡ stamp_of t.now) }
-    ensures begun { from ≤ result }
-    ensures skipped { Skips t.now (texts_at s.now (region w.now base n)) from result }
-{
-    let mut k = from;
-    while k < n {
-        if w[base + k] % 65536 == key {
-            return k;
-        }
-        if t.len() == 0 {
-            return k;
-        }
-        k += 1;
-    }
-    k
+    let from = (x / 65536) as usize;
+    from <= s.len() && texts::starts_with(t, &s[from..])
 }
 
 // The index of t among the n texts that the table names from `base` on, or n where it is none of them.
@@ -161,14 +111,12 @@ pub fn index(s: &[u8], w: &[u32], base: usize, n: usize, t: &[u8]) -> usize
     ensures { result ≡ index_of t.now (texts_at s.now (region w.now base n)) }
 {
     let key = stamp(t);
-    let mut k = past_others(s, w, base, n, 0, key, t);
-    while k < n {
+    for k in 0..n {
         if is_named(s, w[base + k], key, t) {
             return k;
         }
-        k = past_others(s, w, base, n, k + 1, key, t);
     }
-    k
+    n
 }
 
 // The number i becomes the name of the text of s from a up to e.
@@ -211,7 +159,7 @@ pub fn lowest_of(n: usize) -> u32
     ensures { result ≡ lowest n }
 {
     if n == 32 {
-        return 4294967295;
+        return u32::MAX;
     }
     (1 << (n % 32) as u32) - 1
 }
@@ -243,7 +191,7 @@ pub fn allow(w: &mut [u32], c: usize, roles: u32)
     requires { (650 + c < length w.old) × (c ≤ 64) }
     ensures { w.new ≡ set (set w.old (580 + c) (bit_or (get_or w.old (580 + c) 0) roles)) (650 + c) 2 }
 {
-    w[ALLOWS + c] = w[ALLOWS + c] | roles;
+    w[ALLOWS + c] |= roles;
     w[ACCESSES + c] = 2;
 }
 
@@ -306,16 +254,7 @@ impl Tally {
     pub fn at(self, stage: Stage) -> Tally
         ensures { result ≡ tally_at self stage }
     {
-        Tally {
-            stage: stage,
-            lines: self.lines,
-            declared: self.declared,
-            roles: self.roles,
-            methods: self.methods,
-            patterns: self.patterns,
-            collections: self.collections,
-            constraints: self.constraints,
-        }
+        Tally { stage, ..self }
     }
 
     // A declared role more.
@@ -325,13 +264,9 @@ impl Tally {
     {
         Tally {
             stage: Stage::AfterRole,
-            lines: self.lines,
             declared: self.declared + 1,
             roles: self.roles + 1,
-            methods: self.methods,
-            patterns: self.patterns,
-            collections: self.collections,
-            constraints: self.constraints,
+            ..self
         }
     }
 
@@ -341,14 +276,9 @@ impl Tally {
         ensures { result ≡ tally_constraint self stage }
     {
         Tally {
-            stage: stage,
-            lines: self.lines,
-            declared: self.declared,
-            roles: self.roles,
-            methods: self.methods,
-            patterns: self.patterns,
-            collections: self.collections,
+            stage,
             constraints: self.constraints + 1,
+            ..self
         }
     }
 
@@ -359,13 +289,8 @@ impl Tally {
     {
         Tally {
             stage: Stage::AfterAllow,
-            lines: self.lines,
-            declared: self.declared,
             roles: self.roles + 1,
-            methods: self.methods,
-            patterns: self.patterns,
-            collections: self.collections,
-            constraints: self.constraints,
+            ..self
         }
     }
 
@@ -376,13 +301,8 @@ impl Tally {
     {
         Tally {
             stage: Stage::AfterCollection,
-            lines: self.lines,
-            declared: self.declared,
-            roles: self.roles,
-            methods: self.methods,
-            patterns: self.patterns,
             collections: self.collections + 1,
-            constraints: self.constraints,
+            ..self
         }
     }
 
@@ -393,13 +313,8 @@ impl Tally {
     {
         Tally {
             stage: Stage::AfterPattern,
-            lines: self.lines,
-            declared: self.declared,
-            roles: self.roles,
-            methods: self.methods,
             patterns: self.patterns + 1,
-            collections: self.collections,
-            constraints: self.constraints,
+            ..self
         }
     }
 
@@ -409,14 +324,9 @@ impl Tally {
         ensures { result ≡ tally_line self stage }
     {
         Tally {
-            stage: stage,
+            stage,
             lines: self.lines + 1,
-            declared: self.declared,
-            roles: self.roles,
-            methods: self.methods,
-            patterns: self.patterns,
-            collections: self.collections,
-            constraints: self.constraints,
+            ..self
         }
     }
 
@@ -426,14 +336,10 @@ impl Tally {
         ensures { result ≡ tally_method self stage }
     {
         Tally {
-            stage: stage,
+            stage,
             lines: self.lines + 1,
-            declared: self.declared,
-            roles: self.roles,
             methods: self.methods + 1,
-            patterns: self.patterns,
-            collections: self.collections,
-            constraints: self.constraints,
+            ..self
         }
     }
 }

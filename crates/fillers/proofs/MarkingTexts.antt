@@ -1,7 +1,7 @@
 -- Marking the numbers of a text, byte by byte: those that it starts with, and those behind a `q` inside it.
 use mathlib.Core.Path.{◌≡◌, refl, sym, ap, ◌∙◌}
 use mathlib.Core.Bool.{false}
-use mathlib.Core.List.{List, ◌∷◌}
+use mathlib.Core.List.{List, [], ◌∷◌}
 use Prim.Native.Nat.{ℕ, ◌+◌, ◌-◌, ◌*◌, ◌≤◌, ◌<◌}
 use native.Mathlib.Numerals.{add-one}
 use native.Mathlib.Omega.{arith}
@@ -10,6 +10,7 @@ use lib.Seq.{drop-cons, drop-drop, take_all}
 use lib.Dec.{eqb}
 use borrow.Author.Tests.{lt-ltb, le-ltb, eq-eqb, ne_eqb}
 use Rattle.text.specs.Texts.{Text, part, starts_with}
+use Rattle.text.proofs.Spans.{from_on}
 use Rattle.trials.specs.Fillers.{occurs}
 use Rattle.fillers.specs.Marks.{MarkedToo, Passed, leads, within}
 use Rattle.fillers.proofs.LeadingNumbers.{starts_from, leads_from}
@@ -73,32 +74,23 @@ unfolding within occurs starts_with
 passed_digit t i P h low high = record { fits = omega arith; rest = λ n. P.rest n ∙ rw (next_drop t i 0 h, ne_eqb 113 (get_or t i 0) (λ e. omega arith)) }
 
 -- ---- the numbers behind a `q` inside a text
-pub text_starts : (t : Text) (ws : List ℕ) → Remaining (within t) (within (drop 0 t)) ws ws
+pub text_starts : (t : Text) (ws : List ℕ) → Remaining (within t) (within t) ws ws
 text_starts t ws = marking_starts (within t) (within t) ws (λ n h. refl)
 
-module _ (t : Text) (before now : List ℕ) (i : ℕ) (M : Remaining (within t) (within (drop i t)) before now) where
-  -- the text is at its end
-  pub text_ends : length t ≤ i → MarkedToo (within t) before now
+-- nothing is left of it
+pub text_ends : (t r : Text) (before now : List ℕ) → Remaining (within t) (within r) before now → length r ≡ 0 → MarkedToo (within t) before now
+unfolding within occurs starts_with
+text_ends t [] before now M e = marking_ends (within t) _ before now M (λ n l. refl)
+text_ends t (x ∷ xs) before now M e = absurd (omega arith)
+
+module _ (t r : Text) (before now : List ℕ) (M : Remaining (within t) (within r) before now) (b : ℕ) (rest : Text) (next : r ≡ b ∷ rest) where
+  -- the next byte is `q`, and the numbers behind it are marked and passed by
+  pub text_turns : b ≡ 113 → (now' : List ℕ) (k : ℕ) → MarkedToo (leads rest) now now' → Passed rest k → Remaining (within t) (within (part k (length rest) rest)) before now'
+  unfolding within occurs starts_with leads
+  text_turns h now' k T P =
+      rw (from_on k rest) (marking_turns (within t) _ before now M (leads rest) _ now' T (λ n l. rw (next, h, P.rest n)))
+
+  -- or it is not
+  pub text_skips : (b ≡ 113 → ⊥) → Remaining (within t) (within rest) before now
   unfolding within occurs starts_with
-  text_ends h = marking_ends (within t) _ before now M (λ n l. rw (drop_of_length-le t h))
-
-  module _ (inside : i < length t) where
-    -- the next byte is `q`, and the numbers behind it are marked and passed by
-    module _ (now' : List ℕ) (k : ℕ) (P : Passed (part (i + 1) (length t) t) k) where
-      behind : part (i + 1) (length t) t ≡ drop (i + 1) t
-      behind = take_all (length t - (i + 1)) (drop (i + 1) t) (omega (arith, length-drop (i + 1) t))
-
-      pub text_passes : i + 1 + k ≤ length t
-      text_passes = let l : k ≤ length (drop (i + 1) t) = rw (← behind) P.fits in omega (arith, length-drop (i + 1) t)
-
-      pub text_turns : get_or t i 0 ≡ 113 → MarkedToo (leads (part (i + 1) (length t) t)) now now' → Remaining (within t) (within (drop (i + 1 + k) t)) before now'
-      unfolding within occurs starts_with leads
-      text_turns h T = marking_turns (within t) _ before now M (leads (drop (i + 1) t)) _ now' (rw behind at T) (λ n l. rw (next_drop t i 0 inside, h, further n))
-        where
-          further : (n : ℕ) → within (drop (i + 1) t) n ≡ within (drop (i + 1 + k) t) n
-          further n = (rw behind at (P.rest n)) ∙ ap (λ (u : Text). within u n) (drop-drop k (i + 1) t)
-
-    -- or it is not
-    pub text_skips : (get_or t i 0 ≡ 113 → ⊥) → Remaining (within t) (within (drop (i + 1) t)) before now
-    unfolding within occurs starts_with
-    text_skips h = marking_skips (within t) _ before now M _ (λ n l. rw (next_drop t i 0 inside, ne_eqb 113 _ (λ e. h (sym e))))
+  text_skips h = marking_skips (within t) _ before now M _ (λ n l. rw (next, ne_eqb 113 b (λ e. h (sym e))))

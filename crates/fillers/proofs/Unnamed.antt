@@ -2,20 +2,18 @@
 use mathlib.Core.Path.{◌≡◌, sym, ◌∙◌}
 use mathlib.Core.Bool.{Bool, true, false, not}
 use mathlib.Core.List.{List, [], ◌∷◌, ◌++◌}
-use Prim.Native.Nat.{ℕ, ◌≤◌, ◌<◌}
+use Prim.Native.Nat.{ℕ, ◌+◌, ◌≤◌, ◌<◌}
 use native.Mathlib.Omega.{arith}
 use native.Mathlib.Decide.{dec_lt}
 use lib.ListN.{length, length-append}
 use lib.Dec.{ltb, leb}
 use borrow.Author.Tests.{lt-ltb, le-ltb, le-leb, lt-leb}
 use Rattle.text.specs.Texts.{Text, member, index_of}
-use Rattle.reading.specs.Holds.{Holds}
-use Rattle.reading.specs.Views.{view_at}
-use Rattle.entries.specs.declared.tables.Tally.{Tally}
+use Rattle.reading.specs.Views.{View, ProperView}
 use Rattle.text.proofs.Truths.{never}
 use Rattle.text.proofs.Indices.{index_member}
 use Rattle.names.proofs.Plainly.{member_append}
-use Rattle.trials.specs.Fillers.{numbered, first_number, is_unnamed}
+use Rattle.trials.specs.Fillers.{numbered, first_number, is_unnamed, First}
 use Rattle.trials.proofs.Pigeons.{first_one}
 use Rattle.trials.proofs.FillersExist.{method_is_first}
 
@@ -43,22 +41,30 @@ module _ (old new : List Text) (n i k : ℕ) (name : Text) (written : name ≡ n
           go (no h) = let g : b ≤ a = omega arith in rw (le-ltb a b g) (le-leb b a g)
 
 -- ---- the first of them
-module _ (old new : Text) (to tn : Tally) (wo wn : List ℕ) (O : Holds old to wo) (N : Holds new tn wn) where
+module _ (old new : View) (O : ProperView old) (N : ProperView new) where
   -- the methods of both listings: 62 at most
-  few : length ((view_at new tn wn).methods ++ (view_at old to wo).methods) ≤ 62
+  few : length (new.methods ++ old.methods) ≤ 62
   few =
-      let a = N.proper.few_methods in
-      let b = O.proper.few_methods in
-      rw (length-append (view_at new tn wn).methods (view_at old to wo).methods) (omega arith)
+      let a = N.few_methods in
+      let b = O.few_methods in
+      rw (length-append new.methods old.methods) (omega arith)
 
-  module _ (n : ℕ) (before : (i : ℕ) → i < n → is_unnamed ((view_at new tn wn).methods ++ (view_at old to wo).methods) i ≡ false) where
+  module _ (n : ℕ) (before : (i : ℕ) → i < n → is_unnamed (new.methods ++ old.methods) i ≡ false) where
     -- the number that is found is the filler method's
-    pub method_found : (b : Bool) → b ≡ is_unnamed ((view_at new tn wn).methods ++ (view_at old to wo).methods) n → b ≡ true
-        → n ≡ first_number (is_unnamed ((view_at new tn wn).methods ++ (view_at old to wo).methods))
+    pub method_found : (b : Bool) → b ≡ is_unnamed (new.methods ++ old.methods) n → b ≡ true
+        → n ≡ first_number (is_unnamed (new.methods ++ old.methods))
     method_found b e f = first_one _ n _ (method_is_first _ (omega (arith, few))).0 (sym e ∙ f) before
 
-    -- and one is found below 99
-    pub method_missed : 99 ≤ n → n ≡ first_number (is_unnamed ((view_at new tn wn).methods ++ (view_at old to wo).methods))
-    method_missed h =
-        let F = method_is_first ((view_at new tn wn).methods ++ (view_at old to wo).methods) (omega (arith, few)) in
-        absurd (never _ F.0.passes (before _ (omega (arith, few, F.1))))
+    -- and where as many are passed as there are methods, the next is
+    pub method_last : n ≡ length new.methods + length old.methods → n ≡ first_number (is_unnamed (new.methods ++ old.methods))
+    method_last h =
+        let F = method_is_first (new.methods ++ old.methods) (omega (arith, few)) in
+        go F (dec_lt (first_number (is_unnamed (new.methods ++ old.methods))) n)
+      where
+        go : First (is_unnamed (new.methods ++ old.methods)) 0 (first_number (is_unnamed (new.methods ++ old.methods))) × (first_number (is_unnamed (new.methods ++ old.methods)) ≤ length (new.methods ++ old.methods))
+            → Dec (first_number (is_unnamed (new.methods ++ old.methods)) < n) → n ≡ first_number (is_unnamed (new.methods ++ old.methods))
+        go F (yes l) = absurd (never _ F.0.passes (before _ l))
+        go F (no l) = omega (arith, F.1, length-append new.methods old.methods)
+
+  pub method_small : (n : ℕ) → n ≤ length new.methods + length old.methods → n < 100
+  method_small n h = omega (arith, O.few_methods, N.few_methods)

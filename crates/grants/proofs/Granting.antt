@@ -5,7 +5,7 @@ use mathlib.Core.List.{List}
 use Prim.Native.Nat.{ℕ, zero, suc, ◌+◌, ◌-◌, ◌*◌, ◌/◌, ◌%◌, ◌^◌, ◌≤◌, ◌<◌}
 use native.Mathlib.Nat.{mod-eq_of_lt}
 use native.Mathlib.Omega.{arith}
-use lib.ListN.{length, get_or, set}
+use lib.ListN.{length, get_or, set, replicate}
 use lib.Dec.{eqb, ltb}
 use lib.Bits.{bit_or, or_step, or_shr, or_mod, or_zero_r}
 use borrow.Author.Tests.{lt-ltb, le-ltb, ne_eqb}
@@ -74,24 +74,6 @@ join_coded x (suc (suc m)) r h =
     rw (digit_made 32 x (4294967296 + r) a, digit_kept 34 x (4294967296 + r) b, digit_kept 33 x (4294967296 + r) d, low_joined x (4294967296 + r), l)
 
 -- ---- what a line says
-module _ (side : List ℕ) (k : ℕ) where
-  -- number 0
-  pub code_open : get_or side (128 + k) 0 ≡ 0 → 12884901888 ≡ code_of (access_in side k)
-  code_open e = rw e
-
-  -- number 1
-  pub code_closed : get_or side (128 + k) 0 ≡ 1 → 21474836480 ≡ code_of (access_in side k)
-  code_closed e = rw e
-
-  -- any other number
-  pub code_by_role : (x : ℕ) → (get_or side (128 + k) 0 ≡ 0 → ⊥) → (get_or side (128 + k) 0 ≡ 1 → ⊥) → x ≡ get_or side (256 + k) 0 → 4294967296 + x ≡ code_of (access_in side k)
-  code_by_role x p q e = go (get_or side (128 + k) 0) p q
-    where
-      go : (n : ℕ) → (n ≡ 0 → ⊥) → (n ≡ 1 → ⊥) → 4294967296 + x ≡ code_of (access_from n (get_or side (256 + k) 0))
-      go zero p q = absurd (p refl)
-      go (suc zero) p q = absurd (q refl)
-      go (suc (suc n)) p q = ap (λ (y : ℕ). 4294967296 + y) e
-
 -- for a method that it covers
 module _ (cover code m : ℕ) (l : m < 32) where
   pub code_taken : cover / 2 ^ (m % 32) % 2 ≡ 1 → code ≡ code_for cover code m
@@ -186,11 +168,9 @@ module _ (before : List ℕ) where
   grant_more m v out M h e = mix_more 32 (grantees_at before) before m v out M h (e ∙ ap (λ (x : ℕ). grantees_of (joined_in x)) (M.left m (omega arith)))
 
 -- ---- a roster in which nothing is joined
-pub clear_start : (roster : List ℕ) → length roster ≡ 32 → Filled 32 32 0 none roster
-clear_start roster e = fill_start 32 32 none roster e (omega arith)
-
-pub clear_all : (m : ℕ) (roster : List ℕ) → Filled 32 32 m none roster → 32 ≤ m → roster ≡ listed 32 none
-clear_all m roster F h = filled_listed 32 m none roster F h
+pub clear_all : (n : ℕ) (roster : List ℕ) → n ≡ 32 → roster ≡ replicate n 0 → roster ≡ listed 32 none
+unfolding listed
+clear_all n roster e q = q ∙ ap (λ (k : ℕ). replicate k 0) e
 
 pub clear_size : (roster : List ℕ) → roster ≡ listed 32 none → length roster ≡ 32
 clear_size roster e = ap length e ∙ listed_length 32 none

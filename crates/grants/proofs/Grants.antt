@@ -23,8 +23,7 @@ use Rattle.text.proofs.Truths.{never, not_so}
 use Rattle.trials.specs.Trials.{callers_with, trial_methods}
 use Rattle.trials.specs.Loops.{first_some, is_fresh, shown_at}
 use Rattle.grants.specs.Sides.{everyone, caller_at, best_in, grants_in, roster_in, SideOf, PairsOf, Ready}
-use Rattle.grants.specs.Catches.{shown_on, fresh_in, caught_from, caught_in, caught_on}
-use Rattle.grants.specs.declared.judging.Caught.TheVariants as C
+use Rattle.grants.specs.Catches.{shown_on, fresh_in, some_catch, caught_from, caught_in, caught_on}
 use Rattle.grants.proofs.Stores.{listed_at}
 use Rattle.decisions.proofs.Takings.{role_named}
 use Rattle.grants.proofs.Grantees.{seen_by, grants_at_best}
@@ -110,7 +109,7 @@ module _ (old new : Listing) (O : Proper old) (N : Proper new) (so sn pairs : Li
   caught_from_lem (suc k) i e = go (eqb (fresh_in ro rn pairs i) 0) refl (caught_from_lem k (i + 1) (omega arith))
     where
       go : (x : Bool) → eqb (fresh_in ro rn pairs i) 0 ≡ x → caught_on old new p (caught_from ro rn pairs k (i + 1)) ≡ first_some (shown_at old new p) (drop (i + 1) (trial_methods old new))
-          → caught_on old new p (cond x (caught_from ro rn pairs k (i + 1)) (C.At i (count_trailing_zeros 64 (fresh_in ro rn pairs i)))) ≡ first_some (shown_at old new p) (drop i (trial_methods old new))
+          → caught_on old new p (cond x (caught_from ro rn pairs k (i + 1)) (some_catch i (count_trailing_zeros 64 (fresh_in ro rn pairs i)))) ≡ first_some (shown_at old new p) (drop i (trial_methods old new))
       go true q ih = ih ∙ sym (turn_on (shown_at old new p) (trial_methods old new) i [] (omega (arith, counted)) (request_at i (omega arith) ∙ rw q))
       go false q ih = sym (turn_found (shown_at old new p) (trial_methods old new) i [] _ (omega (arith, counted)) (request_at i (omega arith) ∙ rw q))
 

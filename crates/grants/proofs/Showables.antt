@@ -20,19 +20,19 @@ use Rattle.reading.specs.Views.{View, texts, access_at}
 use Rattle.deciding.specs.Joinings.{nothing_joined, join_with}
 use Rattle.deciding.specs.declared.joining.Joined.{Joined}
 use Rattle.grants.specs.Sides.{everyone, Showable, access_roles, grantees_of, SideOf, access_from, joined_along, grants_in, listed, roster_in}
-use Rattle.grants.specs.Catches.{fresh_in, caught_from, caught_in}
-use Rattle.grants.specs.declared.judging.Caught.{Caught}
-use Rattle.grants.specs.declared.judging.Caught.TheVariants as C
+use Rattle.std.specs.Prelude.{Option, Some, None}
+use Rattle.grants.specs.Catches.{fresh_in, some_catch, caught_from, caught_in}
+use Rattle.grants.specs.declared.judging.Catch.{Catch}
 use Rattle.grants.proofs.Grantees.{renumbered_below}
 
 -- who is caught
-caller_in : Caught → ℕ
-caller_in C.Nothing = 0
-caller_in (C.At m d) = d
+caller_in : Option Catch → ℕ
+caller_in None = 0
+caller_in (Some c) = c.caller
 
-is_missed : Caught → Bool
-is_missed C.Nothing = true
-is_missed (C.At m d) = false
+is_missed : Option Catch → Bool
+is_missed None = true
+is_missed (Some c) = false
 
 -- ---- what stands in a roster
 -- all callers, or those with some of k roles
@@ -155,8 +155,8 @@ module _ (ns : List Text) (few : length ns ≤ 32) where
         set_some : 0 < 2 ^ k
         set_some = let z : 2 ^ 0 ≤ 2 ^ k = pow_mono {i = 0} {j = k} (omega arith) in omega arith
 
-  module _ (old new : View) (so sn : List ℕ) (O : SideOf ns old so) (N : SideOf ns new sn) (pairs : List ℕ) (u v m d : ℕ) where
-    from_so : (count i : ℕ) → caught_from (roster_in so (length (texts old)) u) (roster_in sn (length (texts new)) v) pairs count i ≡ C.At m d → Showable ns d
+  module _ (old new : View) (so sn : List ℕ) (O : SideOf ns old so) (N : SideOf ns new sn) (pairs : List ℕ) (u v : ℕ) (one : Catch) where
+    from_so : (count i : ℕ) → caught_from (roster_in so (length (texts old)) u) (roster_in sn (length (texts new)) v) pairs count i ≡ Some one → Showable ns one.caller
     unfolding caught_from is_missed caller_in
     from_so zero i e = absurd (never true refl (ap is_missed e))
     from_so (suc count) i e = go (eqb (fresh_in ro rn pairs i) 0) refl (from_so count (i + 1)) e
@@ -167,14 +167,14 @@ module _ (ns : List Text) (few : length ns ≤ 32) where
         rn : List ℕ
         rn = roster_in sn (length (texts new)) v
 
-        go : (b : Bool) → eqb (fresh_in ro rn pairs i) 0 ≡ b → (caught_from ro rn pairs count (i + 1) ≡ C.At m d → Showable ns d)
-            → cond b (caught_from ro rn pairs count (i + 1)) (C.At i (count_trailing_zeros 64 (fresh_in ro rn pairs i))) ≡ C.At m d → Showable ns d
+        go : (b : Bool) → eqb (fresh_in ro rn pairs i) 0 ≡ b → (caught_from ro rn pairs count (i + 1) ≡ Some one → Showable ns one.caller)
+            → cond b (caught_from ro rn pairs count (i + 1)) (some_catch i (count_trailing_zeros 64 (fresh_in ro rn pairs i))) ≡ Some one → Showable ns one.caller
         go true e ih q = ih q
         go false e ih q =
             subst (Showable ns) (ap caller_in q)
             (fresh_so (get_or rn (get_or pairs (64 + i) 0) 0) (get_or ro (get_or pairs i 0) 0) (roster_so new sn N v (get_or pairs (64 + i) 0)) (roster_so old so O u (get_or pairs i 0)) (eqb-false (fresh_in ro rn pairs i) 0 e))
 
     -- so of the best lines of a path
-    pub caught_showable : (count : ℕ) → caught_in so (length (texts old)) sn (length (texts new)) pairs count u v ≡ C.At m d → Showable ns d
+    pub caught_showable : (count : ℕ) → caught_in so (length (texts old)) sn (length (texts new)) pairs count u v ≡ Some one → Showable ns one.caller
     unfolding caught_in
     caught_showable count e = from_so count 0 e

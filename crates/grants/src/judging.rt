@@ -4,31 +4,29 @@ ghost use Rattle.grants.specs.Sides.{PairsFit};
 ghost use Rattle.grants.specs.Catches.{caught_from, caught_in};
 
 use crate::rosters;
-use entries::tables;
 
-// Nothing, or the number of a trial method and the number of a caller.
+// The number of a trial method and the number of a caller.
 #[derive(Clone, Copy)]
-pub enum Caught {
-    Nothing,
-    At(usize, u32),
+pub struct Catch {
+    pub method: usize,
+    pub caller: usize,
 }
 
 // Of two rosters.
-pub fn judge(ro: &[u64], rn: &[u64], pairs: &[u32], count: usize) -> Caught
+pub fn judge(ro: &[u64], rn: &[u64], pairs: &[u32], count: usize) -> Option<Catch>
     requires { ((length ro.now ≡ 32) × (length rn.now ≡ 32)) × (((length pairs.now ≡ 128) × (count ≤ 63)) × PairsFit pairs.now count) }
     ensures { result ≡ caught_from ro.now rn.now pairs.now count 0 }
 {
-    let mut i = 0;
-    while i < count {
-        let a = tables::wide(pairs[i]);
-        let b = tables::wide(pairs[64 + i]);
+    for method in 0..count {
+        let a = pairs[method] as usize;
+        let b = pairs[64 + method] as usize;
         let fresh = rn[b] & !ro[a];
         if fresh != 0 {
-            return Caught::At(i, u64::trailing_zeros(fresh));
+            let caller = fresh.trailing_zeros() as usize;
+            return Some(Catch { method, caller });
         }
-        i += 1;
     }
-    Caught::Nothing
+    None
 }
 
 // Of two best lines: u of old, with o lines, and v of new, with n.
@@ -41,7 +39,7 @@ pub fn judge_lines(
     count: usize,
     u: usize,
     v: usize,
-) -> Caught
+) -> Option<Catch>
     requires { (((length so.now ≡ 512) × (o ≤ 128)) × ((length sn.now ≡ 512) × (n ≤ 128))) × (((length pairs.now ≡ 128) × (count ≤ 63)) × PairsFit pairs.now count) }
     ensures { result ≡ caught_in so.now o sn.now n pairs.now count u v }
 {

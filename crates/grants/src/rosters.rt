@@ -4,8 +4,6 @@ ghost use Rattle.std.specs.Prelude.{◌≡◌, ◌+◌, ◌≤◌, ◌<◌, leng
 ghost use Rattle.grants.specs.Sides.{access_in, grantees_of, listed, roster_in};
 ghost use Rattle.grants.specs.Codes.{code_of, code_for, joined_with, joined_in, grantees_at, none, Along};
 
-use entries::tables;
-
 // The set of all callers.
 pub const EVERYONE: u64 = 18446744073709551615;
 
@@ -20,14 +18,11 @@ pub fn code_of(side: &[u32], k: usize) -> u64
     ensures code { result ≡ code_of (access_in side.now k) }
     ensures small { get_or side.now (256 + k) 0 < 4294967296 }
 {
-    let number = side[128 + k];
-    if number == 0 {
-        return OPEN;
+    match side[128 + k] {
+        0 => OPEN,
+        1 => CLOSED,
+        _ => 4294967296 + u64::from(side[256 + k]),
     }
-    if number == 1 {
-        return CLOSED;
-    }
-    4294967296 + tables::wide_set(side[256 + k])
 }
 
 // The number of a line, with that cover, for method m.
@@ -46,10 +41,8 @@ pub fn join_line(cover: u32, code: u64, roster: &mut [u64])
     requires { length roster.old ≡ 32 }
     ensures { roster.new ≡ listed 32 (joined_with cover code roster.old) }
 {
-    let mut m = 0;
-    while m < 32 {
-        roster[m] = roster[m] | code_for(cover, code, m);
-        m += 1;
+    for (m, number) in roster.iter_mut().enumerate() {
+        *number |= code_for(cover, code, m);
     }
 }
 
@@ -59,8 +52,9 @@ pub fn join_along(side: &[u32], n: usize, first: usize, roster: &mut [u64])
     ensures { Along side.now n first roster.new }
 {
     let mut k = first;
+    // Kept: the table tells how far the next line with the text is, so the index leaps, and no iterator of the library goes so.
     while k < n {
-        let next = k + 1 + tables::wide(side[384 + k]);
+        let next = k + 1 + side[384 + k] as usize;
         join_line(side[k], code_of(side, k), roster);
         k = next;
     }
@@ -87,10 +81,8 @@ pub fn grant_roster(roster: &mut [u64])
     requires { length roster.old ≡ 32 }
     ensures { roster.new ≡ listed 32 (grantees_at roster.old) }
 {
-    let mut m = 0;
-    while m < 32 {
-        roster[m] = callers_in(roster[m]);
-        m += 1;
+    for number in roster.iter_mut() {
+        *number = callers_in(*number);
     }
 }
 
@@ -99,11 +91,7 @@ pub fn clear(roster: &mut [u64])
     requires { length roster.old ≡ 32 }
     ensures { roster.new ≡ listed 32 none }
 {
-    let mut m = 0;
-    while m < 32 {
-        roster[m] = 0;
-        m += 1;
-    }
+    roster.fill(0);
 }
 
 // Whom the table grants at a best line, for each method.

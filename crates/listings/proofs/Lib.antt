@@ -8,9 +8,6 @@
 --   Headers     the first line
 --   Countings   one record more
 --   Sound       the records of an accepted listing pass every rule
--- The code, module by module:
---   Followings  records: what may follow what
-pub mod Followings
 pub mod Lines
 pub mod Headers
 pub mod Countings

@@ -1,30 +1,26 @@
--- How the code takes a line's head and what may follow what: for the proofs alone, which show that it is what Records says.
-use Rattle.std.specs.Prelude.{ℕ, Bool, true, false, cond}
+-- How the code takes a line's head, and which line is the first of its collection: for the proofs alone.
+use Rattle.std.specs.Prelude.{ℕ, Bool, true, false, cond, Option, Some, None}
 use Rattle.text.specs.Texts.{Text, bytes, starts_with}
 use Rattle.listings.specs.declared.records.Kind.{Kind}
 use Rattle.listings.specs.declared.records.Kind.TheVariants.{Role, Constraint, Allow, Collection, Pattern, Method, Omit, End}
-use Rattle.listings.specs.declared.records.Named.TheVariants.{Known, Unknown}
 use Rattle.listings.specs.declared.records.Headed.{Headed}
 use Rattle.listings.specs.declared.records.Stage.{Stage}
 use Rattle.listings.specs.declared.records.Stage.TheVariants.{AfterFirst, AfterRole, AfterOpen, AfterAuth, AfterAllow, AfterCollection, AfterPattern, AfterMethod, AfterOmit, AfterEnd}
 
 -- ---- how a line begins: with a record's name, and a tab behind it or the line's end
-abbrev pub headed : Kind → ℕ → Headed
-headed k n = record { named = Known k; size = n }
+abbrev pub headed : Kind → ℕ → Option Headed
+headed k n = Some (record { kind = k; size = n })
 
-abbrev pub unheaded : Headed
-unheaded = record { named = Unknown; size = 0 }
-
-unfoldable pub head_of_part : Text → Headed
+unfoldable pub head_of_part : Text → Option Headed
 unfolding starts_with
 head_of_part t =
     cond (starts_with (bytes "role\t") t) (headed Role 5)
     (cond (starts_with (bytes "constraint\t") t) (headed Constraint 11)
     (cond (starts_with (bytes "collection\n") t) (headed Collection 10)
     (cond (starts_with (bytes "end\n") t) (headed End 3)
-    unheaded)))
+    None)))
 
-unfoldable pub head_of : Text → Headed
+unfoldable pub head_of : Text → Option Headed
 unfolding starts_with head_of_part
 head_of t =
     cond (starts_with (bytes "method\t") t) (headed Method 7)
@@ -32,17 +28,6 @@ head_of t =
     (cond (starts_with (bytes "pattern\t") t) (headed Pattern 8)
     (cond (starts_with (bytes "allow\t") t) (headed Allow 6)
     (head_of_part t))))
-
--- the stages that a record of that kind may follow: a binary digit for each, by its number
-abbrev pub stages_of : Kind → ℕ
-stages_of Role = 3
-stages_of Constraint = 451
-stages_of Allow = 24
-stages_of Collection = 476
-stages_of Pattern = 96
-stages_of Method = 192
-stages_of Omit = 320
-stages_of End = 451
 
 -- a `method` line at that stage is the first of its collection, and takes all other methods out
 abbrev pub is_first_method : Stage → Bool

@@ -1,13 +1,13 @@
 -- The records of a listing, and which may follow which.
 use Rattle.std.specs.Prelude.{ℕ, Bool, false, not, cond, ◌&&◌, ◌||◌, List, [], ◌∷◌, eqb}
+use Rattle.std.specs.Prelude.{Some, None}
+use Rattle.std.specs.Prelude.{Option as Maybe}
 use Rattle.std.proofs.Math.Option.{Option, none, some}
 use Rattle.text.specs.Texts.{Text, bytes, same, distinct}
 use Rattle.text.specs.Lines.{Line, fields_of}
 use Rattle.names.specs.Names.{is_star}
 use Rattle.listings.specs.declared.records.Kind.{Kind}
 use Rattle.listings.specs.declared.records.Kind.TheVariants.{Role, Constraint, Allow, Collection, Pattern, Method, Omit, End}
-use Rattle.listings.specs.declared.records.Named.{Named}
-use Rattle.listings.specs.declared.records.Named.TheVariants.{Known, Unknown}
 use Rattle.listings.specs.declared.records.Stage.{Stage}
 use Rattle.listings.specs.declared.records.Stage.TheVariants.{AfterFirst, AfterRole, AfterOpen, AfterAuth, AfterAllow, AfterCollection, AfterPattern, AfterMethod, AfterOmit, AfterEnd}
 
@@ -17,29 +17,33 @@ pub record Record : Type 0 where
   pub field : Text
 
 -- ---- a line's record
+-- what a record's name says: a kind, or nothing that is known
+abbrev pub Named : Type 0
+Named = Maybe Kind
+
 -- the names that stand alone
 unfoldable pub alone : Text → Named
 unfolding same
 alone n =
-    cond (same n (bytes "collection")) (Known Collection)
-    (cond (same n (bytes "end")) (Known End)
-    Unknown)
+    cond (same n (bytes "collection")) (Some Collection)
+    (cond (same n (bytes "end")) (Some End)
+    None)
 
 -- the names that a field follows
 unfoldable pub with_field : Text → Named
 unfolding same
 with_field n =
-    cond (same n (bytes "role")) (Known Role)
-    (cond (same n (bytes "constraint")) (Known Constraint)
-    (cond (same n (bytes "allow")) (Known Allow)
-    (cond (same n (bytes "pattern")) (Known Pattern)
-    (cond (same n (bytes "method")) (Known Method)
-    (cond (same n (bytes "omit")) (Known Omit)
-    Unknown)))))
+    cond (same n (bytes "role")) (Some Role)
+    (cond (same n (bytes "constraint")) (Some Constraint)
+    (cond (same n (bytes "allow")) (Some Allow)
+    (cond (same n (bytes "pattern")) (Some Pattern)
+    (cond (same n (bytes "method")) (Some Method)
+    (cond (same n (bytes "omit")) (Some Omit)
+    None)))))
 
 abbrev pub record_named : Named → Text → Option Record
-record_named (Known k) f = some (record { kind = k; field = f })
-record_named Unknown f = none
+record_named (Some k) f = some (record { kind = k; field = f })
+record_named None f = none
 
 -- the record of a line's fields; none where the name is unknown or the number of fields wrong
 unfoldable pub record_of : List Text → Option Record

@@ -3,7 +3,7 @@ ghost use Rattle.std.specs.Prelude.{◌≡◌};
 ghost use Rattle.listings.specs.Refusals.{number_of, report};
 
 // What a listing can be refused for; specs/Refusals.antt gives the numbers.
-#[derive(Clone, Copy)]
+#[derive(Clone, Copy, PartialEq, Eq)]
 pub enum Fault {
     LongListing,
     BadFirstLine,
@@ -69,26 +69,24 @@ pub fn accept() -> Report
 pub fn refuse(number: u32, side: u32, line: u32) -> Report
     ensures { result ≡ report number side line }
 {
-    Report {
-        number: number,
-        side: side,
-        line: line,
-    }
+    Report { number, side, line }
 }
 
 // 01's number of a fault.
-pub fn number(f: Fault) -> u32
-    ensures { result ≡ number_of f }
-{
-    match f {
-        Fault::LongListing => LONG_LISTING,
-        Fault::BadFirstLine => BAD_FIRST_LINE,
-        Fault::BadForm => BAD_FORM,
-        Fault::WrongPlace => WRONG_PLACE,
-        Fault::BadName => BAD_NAME,
-        Fault::BadPattern => BAD_PATTERN,
-        Fault::RoleTwice => ROLE_TWICE,
-        Fault::PastMost => PAST_MOST,
-        Fault::NoEnd => NO_END,
+impl From<Fault> for u32 {
+    ghost from_gives = { λ f n. n ≡ number_of f };
+
+    fn from(f: Fault) -> u32 {
+        match f {
+            Fault::LongListing => LONG_LISTING,
+            Fault::BadFirstLine => BAD_FIRST_LINE,
+            Fault::BadForm => BAD_FORM,
+            Fault::WrongPlace => WRONG_PLACE,
+            Fault::BadName => BAD_NAME,
+            Fault::BadPattern => BAD_PATTERN,
+            Fault::RoleTwice => ROLE_TWICE,
+            Fault::PastMost => PAST_MOST,
+            Fault::NoEnd => NO_END,
+        }
     }
 }

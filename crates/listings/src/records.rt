@@ -1,12 +1,12 @@
 // The records of a listing, and which may follow which.
-ghost use Rattle.std.specs.Prelude.{◌≡◌, ◌<◌};
-ghost use Rattle.listings.specs.Records.{stage_number, may_follow};
-ghost use Rattle.listings.specs.Heads.{is_first_method, stages_of, head_of_part, head_of};
+ghost use Rattle.std.specs.Prelude.{◌≡◌, ◌<◌, IfSome};
+ghost use Rattle.listings.specs.Records.{may_follow};
+ghost use Rattle.listings.specs.Heads.{headed, head_of};
 
 use text::texts;
 
 // The kinds of record.
-#[derive(Clone, Copy)]
+#[derive(Clone, Copy, PartialEq, Eq)]
 pub enum Kind {
     Role,
     Constraint,
@@ -18,15 +18,8 @@ pub enum Kind {
     End,
 }
 
-// What a record's name says.
-#[derive(Clone, Copy)]
-pub enum Named {
-    Known(Kind),
-    Unknown,
-}
-
 // Where a record leaves the reader.
-#[derive(Clone, Copy)]
+#[derive(Clone, Copy, PartialEq, Eq)]
 pub enum Stage {
     AfterFirst,
     AfterRole,
@@ -40,136 +33,81 @@ pub enum Stage {
     AfterEnd,
 }
 
-// How a line begins: what its record's name says, and how many bytes stand before its field. A name standing alone has an empty field,
+// How a line begins: the record that it names, and how many bytes stand before its field. A name standing alone has an empty field,
 // which the byte 10 behind it ends.
 #[derive(Clone, Copy)]
 pub struct Headed {
-    pub named: Named,
+    pub kind: Kind,
     pub size: usize,
 }
 
-// The head of a `role`, `constraint`, `collection` or `end` line.
-pub fn head_of_part(t: &[u8]) -> Headed
-    ensures is { result ≡ head_of_part t.now }
-    ensures small { result.size < 100 }
+// The head of a line of that kind, whose field begins behind so many bytes.
+fn of_kind(kind: Kind, size: usize) -> Option<Headed>
+    ensures { result ≡ headed kind size }
 {
-    if texts::starts_with(b"role\t", t) {
-        return Headed {
-            named: Named::Known(Kind::Role),
-            size: 5,
-        };
-    }
-    if texts::starts_with(b"constraint\t", t) {
-        return Headed {
-            named: Named::Known(Kind::Constraint),
-            size: 11,
-        };
-    }
-    if texts::starts_with(b"collection\n", t) {
-        return Headed {
-            named: Named::Known(Kind::Collection),
-            size: 10,
-        };
-    }
-    if texts::starts_with(b"end\n", t) {
-        return Headed {
-            named: Named::Known(Kind::End),
-            size: 3,
-        };
-    }
-    Headed {
-        named: Named::Unknown,
-        size: 0,
-    }
+    Some(Headed { kind, size })
 }
 
-// The head of any line, the commonest first.
-pub fn head(t: &[u8]) -> Headed
+// The head of a line, the commonest first; none where its name is unknown.
+#[tactic(auto, using(text::proofs::Truths::ladder), unfolding(crate::specs::Heads::head_of, crate::specs::Heads::head_of_part))]
+pub fn head(t: &[u8]) -> Option<Headed>
     ensures is { result ≡ head_of t.now }
-    ensures small { result.size < 100 }
+    ensures small { IfSome result (λ h. h.size < 100) }
 {
     if texts::starts_with(b"method\t", t) {
-        return Headed {
-            named: Named::Known(Kind::Method),
-            size: 7,
-        };
+        return of_kind(Kind::Method, 7);
     }
     if texts::starts_with(b"omit\t", t) {
-        return Headed {
-            named: Named::Known(Kind::Omit),
-            size: 5,
-        };
+        return of_kind(Kind::Omit, 5);
     }
     if texts::starts_with(b"pattern\t", t) {
-        return Headed {
-            named: Named::Known(Kind::Pattern),
-            size: 8,
-        };
+        return of_kind(Kind::Pattern, 8);
     }
     if texts::starts_with(b"allow\t", t) {
-        return Headed {
-            named: Named::Known(Kind::Allow),
-            size: 6,
-        };
+        return of_kind(Kind::Allow, 6);
     }
-    head_of_part(t)
-}
-
-// The number of a stage: its digit in a set of stages.
-pub fn stage_number(p: Stage) -> u8
-    ensures { result ≡ stage_number p }
-{
-    match p {
-        Stage::AfterFirst => 0,
-        Stage::AfterRole => 1,
-        Stage::AfterOpen => 2,
-        Stage::AfterAuth => 3,
-        Stage::AfterAllow => 4,
-        Stage::AfterCollection => 5,
-        Stage::AfterPattern => 6,
-        Stage::AfterMethod => 7,
-        Stage::AfterOmit => 8,
-        Stage::AfterEnd => 9,
+    if texts::starts_with(b"role\t", t) {
+        return of_kind(Kind::Role, 5);
     }
-}
-
-// The stages that a record of kind k may follow: a binary digit for each, by its number.
-pub fn stages(k: Kind) -> u32
-    ensures { result ≡ stages_of k }
-{
-    match k {
-        Kind::Role => 3,
-        Kind::Constraint => 451,
-        Kind::Allow => 24,
-        Kind::Collection => 476,
-        Kind::Pattern => 96,
-        Kind::Method => 192,
-        Kind::Omit => 320,
-        Kind::End => 451,
+    if texts::starts_with(b"constraint\t", t) {
+        return of_kind(Kind::Constraint, 11);
     }
+    if texts::starts_with(b"collection\n", t) {
+        return of_kind(Kind::Collection, 10);
+    }
+    if texts::starts_with(b"end\n", t) {
+        return of_kind(Kind::End, 3);
+    }
+    None
 }
 
 // Whether a record of kind k may stand at stage p.
+#[tactic(auto, unfolding(crate::specs::Records::may_follow, crate::specs::Records::is_among))]
 pub fn may_follow(p: Stage, k: Kind) -> bool
     ensures { result ≡ may_follow p k }
 {
-    stages(k) >> (stage_number(p) % 32) as u32 & 1 == 1
-}
-
-// Whether a `method` line here would be the first of its collection.
-pub fn is_first_method(p: Stage) -> bool
-    ensures { result ≡ is_first_method p }
-{
-    match p {
-        Stage::AfterFirst => false,
-        Stage::AfterRole => false,
-        Stage::AfterOpen => false,
-        Stage::AfterAuth => false,
-        Stage::AfterAllow => false,
-        Stage::AfterCollection => false,
-        Stage::AfterPattern => true,
-        Stage::AfterMethod => false,
-        Stage::AfterOmit => false,
-        Stage::AfterEnd => false,
+    match k {
+        Kind::Role => matches!(p, Stage::AfterFirst | Stage::AfterRole),
+        Kind::Constraint | Kind::End => matches!(
+            p,
+            Stage::AfterFirst
+                | Stage::AfterRole
+                | Stage::AfterPattern
+                | Stage::AfterMethod
+                | Stage::AfterOmit
+        ),
+        Kind::Allow => matches!(p, Stage::AfterAuth | Stage::AfterAllow),
+        Kind::Collection => matches!(
+            p,
+            Stage::AfterOpen
+                | Stage::AfterAuth
+                | Stage::AfterAllow
+                | Stage::AfterPattern
+                | Stage::AfterMethod
+                | Stage::AfterOmit
+        ),
+        Kind::Pattern => matches!(p, Stage::AfterCollection | Stage::AfterPattern),
+        Kind::Method => matches!(p, Stage::AfterPattern | Stage::AfterMethod),
+        Kind::Omit => matches!(p, Stage::AfterPattern | Stage::AfterOmit),
     }
 }

@@ -1,6 +1,6 @@
 -- The code that drops a path's parameters, byte by byte.
 use mathlib.Core.Path.{◌≡◌, refl, sym, ap, ◌∙◌}
-use mathlib.Core.Bool.{Bool, true, false, cond}
+use mathlib.Core.Bool.{Bool, true, false, not, cond}
 use mathlib.Core.List.{List, [], ◌∷◌, ◌++◌, append-nil, append_assoc}
 use Prim.Native.Nat.{ℕ, suc, ◌+◌, ◌≤◌, ◌<◌}
 use native.Mathlib.Numerals.{add-one}
@@ -41,15 +41,19 @@ module _ (path out₀ out : List ℕ) (b : Bool) (n i : ℕ) (L : Left path out�
         go true q = rw (q, add-one i, take-set-le n out n (get_or path i 0) (omega arith))
         go false q = rw (q, add-one i, add-one n, take-suc-set out n (get_or path i 0) offset_within) (append_assoc (take n out) (get_or path i 0 ∷ []) (left_of false (drop (suc i) path)))
 
-    pub left_more : (d : Bool) (m : ℕ) → d ≡ is_dropped b (get_or path i 0) → m ≡ cond d n (n + 1) → Left path out₀ (set out n (get_or path i 0)) d m (i + 1)
-    left_more d m e f = record {
+    pub left_more : (d : Bool) (k : ℕ) → d ≡ is_dropped b (get_or path i 0) → k ≡ cond (not d) 1 0 → Left path out₀ (set out n (get_or path i 0)) d (n + k) (i + 1)
+    left_more d k e g = let m : ℕ = n + k in let f : m ≡ cond d n (n + 1) = counted d k g in record {
       bytes = ap (λ (k : ℕ). take k (set out n (get_or path i 0)) ++ left_of d (drop (i + 1) path)) f ∙ turn d (sym e) ∙ L.bytes;
       offset = near d f;
       within = omega (arith, h);
       same = length-set out n (get_or path i 0) ∙ L.same;
     }
       where
-        near : (d : Bool) → m ≡ cond d n (n + 1) → m ≤ i + 1
+        counted : (d : Bool) (k : ℕ) → k ≡ cond (not d) 1 0 → n + k ≡ cond d n (n + 1)
+        counted true k q = omega arith
+        counted false k q = omega arith
+
+        near : (d : Bool) → n + k ≡ cond d n (n + 1) → n + k ≤ i + 1
         near true q = omega (arith, L.offset)
         near false q = omega (arith, L.offset)
 

@@ -8,7 +8,9 @@ use lib.ListN.{length, take, drop, get_or, take-append-drop}
 use lib.Seq.{drop-length, drop-cons}
 use lib.Dec.{eqb}
 use borrow.Author.Tests.{ne_eqb}
+use Rattle.std.specs.Prelude.{Some, None, is_some, unwrap_or, ◌+◌, Option as Optional}
 use Rattle.text.specs.Texts.{Text, slash, dot, has}
+use Rattle.text.proofs.Truths.{never}
 use Rattle.decisions.specs.Matching.{after_last_or, after_last, last_segment}
 use Rattle.decisions.proofs.Lasts.{last_none, last_behind, has_middle}
 use Rattle.matching.specs.Strengths.{Ends}
@@ -30,6 +32,15 @@ last_ends b keep (x ∷ xs) t h =
 has_other : (b x : ℕ) (t : Text) → (x ≡ b → ⊥) → has b (x ∷ t) ≡ has b t
 unfolding has
 has_other b x t n = ap (λ (c : Bool). c || has b t) (ne_eqb b x (λ e. n (sym e)))
+
+-- ---- the offset that is answered
+-- it is the one behind the byte at at - 1
+some_at : (at : ℕ) → 0 < at → (k : ℕ) → ◌≡◌ {A = Optional ℕ} (Some (at - 1 + 1)) (Some k) → at ≡ k
+some_at at h k e = let z : at - 1 + 1 ≡ k = ap (λ (o : Optional ℕ). unwrap_or o 0) e in omega arith
+
+-- there is none
+none_at : (k : ℕ) → ◌≡◌ {A = Optional ℕ} None (Some k) → ⊥
+none_at k e = never false (ap (λ (o : Optional ℕ). is_some o) e) refl
 
 -- ---- the loop
 -- the path has no `.` and no `/` from the offset on
@@ -60,33 +71,33 @@ module _ (path : Text) (at : ℕ) (v : PlainFrom path at) where
       other b n e = ap (has b) (before h) ∙ has_other b (get_or path (at - 1) 0) (drop at path) n ∙ e
 
   -- it is a `.`: what follows is the extension
-  pub ends_dotted : 0 < at → get_or path (at - 1) 0 ≡ 46 → Ends path (record { some = true; at = at })
+  pub ends_dotted : 0 < at → get_or path (at - 1) 0 ≡ 46 → Ends path (Some (at - 1 + 1))
   ends_dotted h e =
       let u : Text = take (at - 1) path in
       let r = last_ends slash u u (dot ∷ drop at path) (has_other slash dot (drop at path) (λ q. omega arith) ∙ v.no_slash) in
       let segment : last_segment path ≡ r.0 ++ dot ∷ drop at path = ap (λ (p : Text). last_segment p) (cut dot h e) ∙ r.1 in
       record {
         dotted = sym (ap (has dot) segment ∙ has_middle dot r.0 (drop at path));
-        behind = sym (ap (after_last dot) segment ∙ last_behind dot (r.0 ++ dot ∷ drop at path) r.0 (drop at path) v.no_dot);
-        within = v.within;
+        behind = λ k e. rw (← some_at at h k e) (sym (ap (after_last dot) segment ∙ last_behind dot (r.0 ++ dot ∷ drop at path) r.0 (drop at path) v.no_dot));
+        within = λ k e. rw (← some_at at h k e) v.within;
       }
 
   -- where the last segment begins at the offset, it has no `.`
-  segment_plain : last_segment path ≡ drop at path → Ends path (record { some = false; at = at })
+  segment_plain : last_segment path ≡ drop at path → Ends path None
   segment_plain segment = record {
     dotted = sym (ap (has dot) segment ∙ v.no_dot);
-    behind = sym (ap (after_last dot) segment ∙ last_none dot (drop at path) (drop at path) v.no_dot);
-    within = v.within;
+    behind = λ k e. absurd (none_at k e);
+    within = λ k e. absurd (none_at k e);
   }
 
   -- as where the byte is a `/`
-  pub ends_plain : 0 < at → get_or path (at - 1) 0 ≡ 47 → Ends path (record { some = false; at = at })
+  pub ends_plain : 0 < at → get_or path (at - 1) 0 ≡ 47 → Ends path None
   ends_plain h e =
       let u : Text = take (at - 1) path in
       segment_plain (ap (λ (p : Text). last_segment p) (cut slash h e) ∙ last_behind slash (u ++ slash ∷ drop at path) u (drop at path) v.no_slash)
 
   -- or where there is none: the path is one segment
-  pub ends_whole : at ≤ 0 → Ends path (record { some = false; at = at })
+  pub ends_whole : at ≤ 0 → Ends path None
   ends_whole h =
       let z : at ≡ 0 = omega arith in
       segment_plain (last_none slash path path (rw z at v.no_slash) ∙ ap (λ (i : ℕ). drop i path) (sym z))

@@ -1,75 +1,62 @@
 -- The laws of the code that matches a pattern text with a path and chooses the strongest: in the shape of its loops and of its ladders of tests.
 use mathlib.Core.Path.{◌≡◌, refl, sym, ap, ◌∙◌}
-use mathlib.Core.Bool.{Bool, true, false, not, cond, ◌&&◌, ◌||◌, and-true}
+use mathlib.Core.Bool.{Bool, true, false, cond, ◌&&◌, ◌||◌, and-true}
 use mathlib.Core.List.{List, [], ◌∷◌, ◌++◌}
 use Prim.Native.Nat.{ℕ, ◌+◌, ◌-◌, ◌≤◌, ◌<◌}
-use native.Mathlib.Omega.{arith}
 use lib.ListN.{length, take, drop, get_or}
-use lib.Seq.{take_all, length-take-le}
-use lib.Dec.{ltb, eqb, eqb-suc-zero, eqb-suc-suc}
-use borrow.Author.Tests.{ltb-true, ltb-false, eq-eqb, ne_eqb, eqb-true, eqb-false, not-false}
-use Rattle.text.specs.Texts.{Text, bytes, slash, dot, same, has, starts_with, ends_with, part, run}
+use lib.Seq.{take_all}
+use lib.Dec.{eqb, eqb-suc-zero}
+use Rattle.std.specs.Prelude.{Some, None, is_some, Option as Optional}
+use Rattle.std.specs.Cmp.Lexicographic.{pointwise}
+use Rattle.text.specs.Texts.{Text, bytes, slash, dot, same, starts_with, ends_with, part, run}
 use Rattle.names.specs.Patterns.{PatternKind, exact, prefix, extension, default, unpermitted, is_extension, kind_of}
-use Rattle.text.proofs.Truths.{never, not_so}
-use Rattle.text.proofs.Spans.{ends_short, from_on}
-use Rattle.names.proofs.Namings.{starts_long}
+use Rattle.text.proofs.Truths.{eqb_swap}
+use Rattle.text.proofs.Spans.{from_on, stripped, stripped_end}
 use Rattle.decisions.specs.Matching.{after_last, last_segment, has_extension, is_under, kind_matches}
 use Rattle.matching.specs.Strengths.{Ends, kind_strength, strength, rooted_strength, starred_strength, start_leading, lead, leading}
 use Rattle.matching.specs.declared.Leading.{Leading}
-use Rattle.matching.specs.declared.Ending.{Ending}
 use Rattle.matching.proofs.Strengths.{lead_past, lead_takes}
 use Rattle.text.proofs.Indices.{run_step}
 
 -- ---- P or below P
--- it does not matter which number is compared with which
-eqb_swap : (a b : ℕ) → eqb a b ≡ eqb b a
-eqb_swap a b = go (eqb a b) refl
-  where
-    go : (x : Bool) → eqb a b ≡ x → x ≡ eqb b a
-    go true e = sym (eq-eqb b a (sym (eqb-true a b e)))
-    go false e = sym (ne_eqb b a (λ q. eqb-false a b e (sym q)))
-
 -- the path ends behind P, or goes on with `/`
-abbrev pub ends_or_goes_on : Text → Text → Bool
-ends_or_goes_on p path = eqb (length path) (length p) || eqb (get_or path (length p) 0) slash
+abbrev ends_or_goes_on : Text → Bool
+ends_or_goes_on rest = same rest [] || eqb (get_or rest 0 0) slash
 
-under_cut : (p path : Text) → starts_with p path && ends_or_goes_on p path ≡ is_under p path
+under_cut : (p path : Text) → is_under p path ≡ starts_with p path && ends_or_goes_on (drop (length p) path)
 unfolding is_under starts_with same
 under_cut [] [] = refl
-under_cut [] (y ∷ ys) = rw (eqb-suc-zero (length ys)) (eqb_swap y slash ∙ sym (and-true (eqb slash y)))
+under_cut [] (y ∷ ys) = and-true (eqb slash y) ∙ eqb_swap slash y
 under_cut (x ∷ xs) [] = refl
-under_cut (x ∷ xs) (y ∷ ys) = rw (eqb-suc-suc (length ys) (length xs)) (go (eqb x y) (under_cut xs ys))
+under_cut (x ∷ xs) (y ∷ ys) = go (eqb x y) (under_cut xs ys)
   where
-    go : (b : Bool) → starts_with xs ys && ends_or_goes_on xs ys ≡ same xs ys || starts_with (xs ++ slash ∷ []) ys
-        → (b && starts_with xs ys) && ends_or_goes_on xs ys ≡ (b && same xs ys) || (b && starts_with (xs ++ slash ∷ []) ys)
+    go : (b : Bool) → same xs ys || starts_with (xs ++ slash ∷ []) ys ≡ starts_with xs ys && ends_or_goes_on (drop (length xs) ys)
+        → (b && same xs ys) || (b && starts_with (xs ++ slash ∷ []) ys) ≡ (b && starts_with xs ys) && ends_or_goes_on (drop (length xs) ys)
     go true e = e
     go false e = refl
 
--- the path starts with P, and ends there or goes on with `/`
-pub under_is : (p path : Text) (z : Bool) → z ≡ starts_with p path && ends_or_goes_on p path → z ≡ is_under p path
-under_is p path z e = e ∙ under_cut p path
+-- P is not stripped off: the path is not under it
+pub under_not : (p path : Text) → pointwise eqb (take (length p) path) p ≡ false → false ≡ is_under p path
+under_not p path e = sym (under_cut p path ∙ ap (λ (b : Bool). b && ends_or_goes_on (drop (length p) path)) (sym (stripped p path) ∙ e))
 
--- the byte behind P is there
-pub under_within : (p path : Text) (r : Bool) → r ≡ starts_with p path → not r ≡ false → (length path ≡ length p → ⊥) → length p < length path
-under_within p path r e h n = let l = starts_long p path r e (not-false r h) in omega arith
-
--- two numbers that are equal, and two that are not
-pub eqb_passed : (a b : ℕ) → a ≡ b → true ≡ eqb a b
-eqb_passed a b e = sym (eq-eqb a b e)
-
-pub eqb_failed : (a b : ℕ) → (a ≡ b → ⊥) → false ≡ eqb a b
-eqb_failed a b n = sym (ne_eqb a b n)
+-- it is: what is left tells
+pub under_rest : (p path rest : Text) (z : Bool) → pointwise eqb (take (length p) path) p ≡ true → rest ≡ drop (length p) path
+    → z ≡ same rest [] || eqb (get_or rest 0 0) slash → z ≡ is_under p path
+under_rest p path rest z e d q =
+    q ∙ ap ends_or_goes_on d ∙ sym (under_cut p path ∙ ap (λ (b : Bool). b && ends_or_goes_on (drop (length p) path)) (sym (stripped p path) ∙ e))
 
 -- ---- the strength
--- a text that ends with `/*` has two bytes
-pub ended_long : (t : Text) (r : Bool) → r ≡ ends_with (bytes "/*") t → r ≡ true → 2 ≤ length t
-ended_long t r e h =
-    ltb-false (length t) 2
-    (not_so (ltb (length t) 2) (λ q. never (ends_with (bytes "/*") t) (sym e ∙ h) (sym (ends_short (bytes "/*") t (ltb-true (length t) 2 q)))))
+-- of a text that ends with `/*`, by what stands before that
+pub rooted_ended : (t path stem : Text) (z : ℕ) → pointwise eqb (drop (length t - 2) t) (bytes "/*") ≡ true → stem ≡ take (length t - 2) t
+    → z ≡ cond (is_under stem path) (3 + length stem) 0 → z ≡ rooted_strength t path
+unfolding rooted_strength
+rooted_ended t path stem z e d q =
+    q ∙ ap (λ (u : Text). cond (is_under u path) (3 + length u) 0) d ∙ rw (sym (stripped_end (bytes "/*") t) ∙ e)
 
--- the strength of the prefix before it
-pub ended_strength : (t : Text) → 3 + (length t - 2) ≡ 3 + length (take (length t - 2) t)
-ended_strength t = ap (λ (n : ℕ). 3 + n) (sym (length-take-le (length t - 2) t (omega arith)))
+-- of any other
+pub rooted_other : (t path : Text) (z : ℕ) → pointwise eqb (drop (length t - 2) t) (bytes "/*") ≡ false → z ≡ cond (same t path) 1000 0 → z ≡ rooted_strength t path
+unfolding rooted_strength
+rooted_other t path z e q = q ∙ rw (sym (stripped_end (bytes "/*") t) ∙ e)
 
 -- a text of no bytes is the empty one
 empty_length : (t : Text) → same t [] ≡ eqb (length t) 0
@@ -77,27 +64,38 @@ unfolding same
 empty_length [] = refl
 empty_length (x ∷ xs) = sym (eqb-suc-zero (length xs))
 
+-- the last segment has no `.`
+pub starred_plain : (t path : Text) (x : Optional ℕ) → Ends path x → x ≡ None → 0 ≡ starred_strength t path
+unfolding starred_strength has_extension
+starred_plain t path x v e =
+    rw (sym v.dotted ∙ ap (λ (y : Optional ℕ). is_some y) e) (sym (none_either (starred t)))
+  where
+    starred : Text → Bool
+    starred t = starts_with (bytes "*.") t && is_extension (drop 2 t)
+
+    none_either : (b : Bool) → ◌≡◌ {A = ℕ} (cond b 0 0) 0
+    none_either true = refl
+    none_either false = refl
+
+-- the text does not start with `*.`
+pub starred_other : (t path : Text) → pointwise eqb (take 2 t) (bytes "*.") ≡ false → 0 ≡ starred_strength t path
+unfolding starred_strength
+starred_other t path e = rw (sym (stripped (bytes "*.") t) ∙ e)
+
 -- test by test, in the code's order: first whether what follows the path's last `.` is what follows `*.`, then whether that is an extension
-pub starred_is : (t path : Text) (x : Ending) (z : ℕ) → Ends path x → z
-    ≡ cond (not x.some) 0
-    (cond (not (starts_with (bytes "*.") t)) 0
-    (cond (not (same (part x.at (length path) path) (part 2 (length t) t))) 0
-    (cond (is_extension (part 2 (length t) t)) 2 0)))
+pub starred_is : (t path e : Text) (x : Optional ℕ) (at z : ℕ) → Ends path x → x ≡ Some at → pointwise eqb (take 2 t) (bytes "*.") ≡ true → e ≡ drop 2 t
+    → z ≡ cond (same (part at (length path) path) e) (cond (is_extension e) 2 0) 0
     → z ≡ starred_strength t path
 unfolding starred_strength has_extension
-starred_is t path x z v e =
-    e
-    ∙ rw (from_on 2 t, from_on x.at path, v.dotted, v.behind)
-    (go (has dot (last_segment path)) (starts_with (bytes "*.") t) (same (after_last dot (last_segment path)) (drop 2 t)) (is_extension (drop 2 t)))
+starred_is t path e x at z v s b d q =
+    q
+    ∙ rw (d, from_on at path, v.behind at s, sym v.dotted ∙ ap (λ (y : Optional ℕ). is_some y) s, sym (stripped (bytes "*.") t) ∙ b)
+    (go (same (after_last dot (last_segment path)) (drop 2 t)) (is_extension (drop 2 t)))
   where
-    go : (a b c d : Bool) → ◌≡◌ {A = ℕ} (cond (not a) 0 (cond (not b) 0 (cond (not c) 0 (cond d 2 0)))) (cond (b && d) (cond (a && c) 2 0) 0)
-    go true true true d = refl
-    go true true false true = refl
-    go true true false false = refl
-    go false true c true = refl
-    go false true c false = refl
-    go true false c d = refl
-    go false false c d = refl
+    go : (c d : Bool) → ◌≡◌ {A = ℕ} (cond c (cond d 2 0) 0) (cond d (cond c 2 0) 0)
+    go true d = refl
+    go false true = refl
+    go false false = refl
 
 -- and of any text
 pub strength_is : (t path : Text) (z : ℕ) → z

@@ -1,7 +1,7 @@
 // A path without its parameters; whether a pattern text matches a path, how strongly, and which of several does most strongly. The crate `decisions` says what a match is.
 #![tactic(auto)]
 
-ghost use Rattle.std.specs.Prelude.{◌≡◌, cond, ◌+◌, ◌≤◌, ◌<◌, length, take};
+ghost use Rattle.std.specs.Prelude.{◌≡◌, ◌+◌, ◌≤◌, ◌<◌, length, take};
 ghost use Rattle.decisions.specs.Matching.{is_under};
 ghost use Rattle.decisions.specs.Paths.{is_dropped, dropped};
 ghost use Rattle.decisions.specs.Requests.{is_path};
@@ -13,34 +13,14 @@ use text::texts;
 pub fn is_path(p: &[u8]) -> bool
     ensures { result ≡ is_path p.now }
 {
-    if p.len() < 1 {
-        return false;
-    }
-    if 1024 < p.len() {
-        return false;
-    }
-    if !texts::all_text(p) {
-        return false;
-    }
-    texts::starts_with(b"/", p)
+    (1..=1024).contains(&p.len()) && texts::all_text(p) && texts::starts_with(b"/", p)
 }
 
 // Whether a byte of a path is dropped: no '/', and a ';' or behind one of its segment.
 pub fn is_dropped(behind: bool, b: u8) -> bool
     ensures { result ≡ is_dropped behind b }
 {
-    !(b'/' == b) & (behind | (b';' == b))
-}
-
-// The offset for the next byte, once one is put at n: n again where that one is dropped.
-pub fn next_offset(n: usize, dropped: bool) -> usize
-    requires { n < 1024 }
-    ensures { result ≡ cond dropped n (n + 1) }
-{
-    if dropped {
-        return n;
-    }
-    n + 1
+    (b != b'/') & (behind | (b == b';'))
 }
 
 // Puts the path without its parameters at the start of out, and hands back how many bytes that is.
@@ -52,60 +32,36 @@ pub fn drop_into(out: &mut [u8], path: &[u8]) -> usize
 {
     let mut behind = false;
     let mut n = 0;
-    let mut i = 0;
-    while i < path.len() {
-        let b = path[i];
-        out[n] = b;
-        behind = is_dropped(behind, b);
-        n = next_offset(n, behind);
-        i += 1;
+    for b in path {
+        out[n] = *b;
+        behind = is_dropped(behind, *b);
+        n += usize::from(!behind);
     }
     n
 }
 
-// How a path ends: whether its last segment has a '.', and the offset of what follows the last one, or of the segment where it has none.
-#[derive(Clone, Copy)]
-pub struct Ending {
-    pub some: bool,
-    pub at: usize,
-}
-
-// The ending of a path, sought from its end.
-pub fn ending_of(path: &[u8]) -> Ending
+// How a path ends: the offset of what follows the last '.' of its last segment, or nothing where that has none. It is sought from the end.
+pub fn ending_of(path: &[u8]) -> Option<usize>
     ensures { Ends path.now result }
 {
-    let mut at = path.len();
-    while 0 < at {
-        let b = path[at - 1];
-        if b == b'.' {
-            return Ending { some: true, at: at };
+    for i in (0..path.len()).rev() {
+        match path[i] {
+            b'.' => return Some(i + 1),
+            b'/' => return None,
+            _ => {}
         }
-        if b == b'/' {
-            return Ending {
-                some: false,
-                at: at,
-            };
-        }
-        at -= 1;
     }
-    Ending {
-        some: false,
-        at: at,
-    }
+    None
 }
 
 // Whether the path is p, or starts with p followed by '/'.
 pub fn is_under(p: &[u8], path: &[u8]) -> bool
     ensures { result ≡ is_under p.now path.now }
 {
-    if !texts::starts_with(p, path) {
+    let Some(rest) = path.strip_prefix(p) else {
         return false;
-    }
-    let n = p.len();
-    if path.len() == n {
-        return true;
-    }
-    path[n] == b'/'
+    };
+    rest.is_empty() || rest[0] == b'/'
 }
 
 // How strongly a pattern text that starts with '/' and is longer matches the path.
@@ -113,37 +69,28 @@ pub fn rooted_strength(t: &[u8], path: &[u8]) -> u32
     requires { length t.now ≤ 255 }
     ensures { result ≡ rooted_strength t.now path.now }
 {
-    if texts::ends_with(b"/*", t) {
-        let n = t.len() - 2;
-        if is_under(&t[..n], path) {
-            return 3 + n as u32;
-        }
-        return 0;
+    if let Some(stem) = t.strip_suffix(b"/*") {
+        return if is_under(stem, path) {
+            3 + stem.len() as u32
+        } else {
+            0
+        };
     }
-    if texts::are_same(t, path) {
-        return 1000;
-    }
-    0
+    if texts::are_same(t, path) { 1000 } else { 0 }
 }
 
 // How strongly a pattern text that is not empty and does not start with '/' matches the path, whose ending is x.
-pub fn starred_strength(t: &[u8], path: &[u8], x: Ending) -> u32
+pub fn starred_strength(t: &[u8], path: &[u8], x: Option<usize>) -> u32
     requires { Ends path.now x }
     ensures { result ≡ starred_strength t.now path.now }
 {
-    let some = x.some;
-    let at = x.at;
-    if !some {
+    let Some(at) = x else {
         return 0;
-    }
-    if !texts::starts_with(b"*.", t) {
+    };
+    let Some(e) = t.strip_prefix(b"*.") else {
         return 0;
-    }
-    let e = &t[2..];
-    if !texts::are_same(&path[at..], e) {
-        return 0;
-    }
-    if names::is_extension(e) {
+    };
+    if texts::are_same(&path[at..], e) && names::is_extension(e) {
         return 2;
     }
     0
@@ -151,15 +98,12 @@ pub fn starred_strength(t: &[u8], path: &[u8], x: Ending) -> u32
 
 // How strongly a pattern text matches the path, whose ending is x: 0 not at all, 1 as the default, 2 by extension, 3 and more by a
 // prefix, the longer the stronger, 1,000 exactly.
-pub fn strength_of(t: &[u8], path: &[u8], x: Ending) -> u32
+pub fn strength_of(t: &[u8], path: &[u8], x: Option<usize>) -> u32
     requires { (length t.now ≤ 255) × Ends path.now x }
     ensures { result ≡ strength t.now path.now }
 {
-    if t.len() == 0 {
-        if texts::are_same(b"/", path) {
-            return 1000;
-        }
-        return 0;
+    if t.is_empty() {
+        return if texts::are_same(b"/", path) { 1000 } else { 0 };
     }
     if texts::are_same(t, b"/") {
         return 1;
@@ -179,25 +123,20 @@ pub struct Leading {
 }
 
 // The choice with one pattern more, for a path whose ending is e.
-pub fn lead_with(x: Leading, p: &[u8], path: &[u8], e: Ending) -> Leading
+pub fn lead_with(x: Leading, p: &[u8], path: &[u8], e: Option<usize>) -> Leading
     requires { (x.seen < 1000) × ((length p.now ≤ 255) × Ends path.now e) }
     ensures { result ≡ lead path.now x p.now }
 {
-    let seen = x.seen;
-    let at = x.at;
-    let most = x.most;
-    let next = seen + 1;
     let strength = strength_of(p, path, e);
-    if most < strength {
+    if x.most < strength {
         return Leading {
-            seen: next,
-            at: seen,
+            seen: x.seen + 1,
+            at: x.seen,
             most: strength,
         };
     }
     Leading {
-        seen: next,
-        at: at,
-        most: most,
+        seen: x.seen + 1,
+        ..x
     }
 }

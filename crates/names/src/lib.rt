@@ -21,19 +21,10 @@ pub fn is_name(t: &[u8], clean: bool) -> bool
     requires { clean ≡ all is_text t.now }
     ensures { result ≡ is_name t.now }
 {
-    if t.len() < 1 {
-        return false;
-    }
-    if 64 < t.len() {
-        return false;
-    }
-    if !clean {
-        return false;
-    }
-    if texts::starts_with(b" ", t) {
-        return false;
-    }
-    !texts::ends_with(b" ", t)
+    (1..=64).contains(&t.len())
+        && clean
+        && !texts::starts_with(b" ", t)
+        && !texts::ends_with(b" ", t)
 }
 
 // Whether t is a role's name: such a name, and not `*`.
@@ -41,65 +32,40 @@ pub fn is_role_name(t: &[u8], clean: bool) -> bool
     requires { clean ≡ all is_text t.now }
     ensures { result ≡ is_role_name t.now }
 {
-    if !is_name(t, clean) {
-        return false;
-    }
-    !is_star(t)
+    is_name(t, clean) && !is_star(t)
 }
 
 // Whether t is a method: 1 to 24 token bytes.
 pub fn is_method_name(t: &[u8]) -> bool
     ensures { result ≡ is_method_name t.now }
 {
-    if t.len() < 1 {
-        return false;
-    }
-    if 24 < t.len() {
-        return false;
-    }
-    texts::all_token(t)
+    (1..=24).contains(&t.len()) && texts::all_token(t)
 }
 
 // Whether t is a constraint's kind.
 pub fn is_constraint_kind(t: &[u8]) -> bool
     ensures { result ≡ is_constraint_kind t.now }
 {
-    if texts::are_same(t, b"open") {
-        return true;
-    }
-    texts::are_same(t, b"auth")
+    texts::are_same(t, b"open") || texts::are_same(t, b"auth")
 }
 
 // Whether t can stand behind `*.`: at least one byte, and none of them '.', '/' or '*'.
 pub fn is_extension(t: &[u8]) -> bool
     ensures { result ≡ is_extension t.now }
 {
-    if t.len() == 0 {
-        return false;
-    }
-    if texts::has_byte(b'.', t) {
-        return false;
-    }
-    if texts::has_byte(b'/', t) {
-        return false;
-    }
-    !texts::has_byte(b'*', t)
+    !t.is_empty()
+        && !texts::has_byte(b'.', t)
+        && !texts::has_byte(b'/', t)
+        && !texts::has_byte(b'*', t)
 }
 
 // Whether t is of a kind that 01 permits: empty, or it starts with `/`, or it is `*.` and an extension.
 pub fn is_permitted(t: &[u8]) -> bool
     ensures { result ≡ is_permitted (kind_of t.now) }
 {
-    if t.len() == 0 {
-        return true;
-    }
-    if texts::starts_with(b"/", t) {
-        return true;
-    }
-    if !texts::starts_with(b"*.", t) {
-        return false;
-    }
-    is_extension(&t[2..])
+    t.is_empty()
+        || texts::starts_with(b"/", t)
+        || texts::starts_with(b"*.", t) && is_extension(&t[2..])
 }
 
 // Whether t is a pattern: 0 to 255 text bytes, no space last, no ';', and of a kind that 01 permits.
@@ -107,17 +73,6 @@ pub fn is_pattern(t: &[u8], clean: bool) -> bool
     requires { clean ≡ all is_text t.now }
     ensures { result ≡ is_pattern t.now }
 {
-    if 255 < t.len() {
-        return false;
-    }
-    if !clean {
-        return false;
-    }
-    if texts::ends_with(b" ", t) {
-        return false;
-    }
-    if texts::has_byte(b';', t) {
-        return false;
-    }
-    is_permitted(t)
+    let is_formed = (..=255).contains(&t.len()) && clean && !texts::ends_with(b" ", t);
+    is_formed && !texts::has_byte(b';', t) && is_permitted(t)
 }

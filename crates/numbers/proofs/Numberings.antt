@@ -19,7 +19,7 @@ use Rattle.numbers.specs.Stemming.{last_stem, AllStems, FirstsLent}
 use Rattle.numbers.specs.Gaps.{Alike, GapsLent}
 use Rattle.numbers.specs.Numbering.{FirstsStand, SidesLent, SidesWritten, TablesWritten, NumbersWritten, counts_of}
 use Rattle.numbers.specs.declared.stems.Stem.{Stem}
-use Rattle.numbers.proofs.Stemmings.{firsts_same, line_among}
+use Rattle.numbers.proofs.Stemmings.{firsts_same, among_lines}
 use Rattle.numbers.proofs.Writings.{olds_still, news_still}
 use Rattle.numbers.proofs.PairsPut.{both_still}
 
@@ -57,7 +57,7 @@ firsts_tell : (ts vs : List Text) (at m : ℕ) (w : List ℕ) → Firsts ts at (
     → Alike vs (part (at + 1666 + m) (at + 1666 + m + 128) w)
 firsts_tell ts vs at m w F h few same_line j k l q =
     rw (number j l, number k q, ← same_line j l, ← same_line k q)
-    (firsts_same ts (get_or ts (m + j) []) (get_or ts (m + k) []) (line_among ts (m + j) (omega arith)) (line_among ts (m + k) (omega arith)))
+    (firsts_same ts (get_or ts (m + j) []) (get_or ts (m + k) []) (among_lines ts (m + j) (omega arith)) (among_lines ts (m + k) (omega arith)))
   where
     number : (i : ℕ) → i < length vs → get_or (part (at + 1666 + m) (at + 1666 + m + 128) w) i 0 ≡ index_of (get_or ts (m + i) []) ts
     number i b =

@@ -1,13 +1,19 @@
 -- How strong a pattern text is at a stem, and the strongest of a view: laws in the shape of the code.
-use mathlib.Core.Path.{◌≡◌, refl, sym, ap, fun_ext, ◌∙◌}
+use mathlib.Core.Path.{◌≡◌, refl, sym, ap, ap₂, fun_ext, ◌∙◌}
 use mathlib.Core.Bool.{Bool, true, false, not, cond, ◌&&◌, and-true, and-false, or-false}
 use mathlib.Core.List.{List, [], ◌∷◌, ◌++◌}
 use Prim.Native.Nat.{ℕ, zero, suc, ◌+◌, ◌-◌, ◌*◌, ◌≤◌, ◌<◌}
 use native.Mathlib.Numerals.{add-one}
 use native.Mathlib.Omega.{arith}
 use lib.ListN.{length, get_or, take, drop, length-append, take-append-drop, drop_of_length-le}
-use lib.Seq.{take_all, length-take-le, drop-cons}
-use lib.Dec.{eqb, leb}
+use lib.Seq.{take_all, length-take-le, get_or-take, drop-cons}
+use lib.Dec.{eqb, ltb, leb}
+use native.Mathlib.Decide.{dec_lt}
+use Rattle.std.proofs.Common.{Option, Some, None, ◌==◌}
+use Rattle.std.specs.Option.{unwrap_or}
+use Rattle.std.specs.List.{position, position_or_len}
+use Rattle.std.proofs.lemmas.List.Sums.{prefix_len-le-length}
+use Rattle.std.proofs.lemmas.List.Recursion.{is_position_or_len}
 use borrow.Author.Tests.{lt-ltb, le-ltb, eq-eqb, ne_eqb, le-leb, lt-leb}
 use Rattle.text.specs.Texts.{Text, bytes, slash, same, starts_with, ends_with, index_of, run}
 use Rattle.names.specs.Patterns.{PatternKind, exact, prefix, extension, default, unpermitted, kind_of, is_extension, Shape}
@@ -23,46 +29,58 @@ use Rattle.grants.specs.Scratch.{best_number, below_strength, stem_strength, lea
 use Rattle.reading.specs.Views.{texts, view_at}
 use Rattle.entries.specs.declared.tables.Tally.{Tally}
 use Rattle.firsts.proofs.Enterings.{Seeking, seek_start}
-use Rattle.numbers.specs.Stemming.{is_firm_text, Findable, Lacking}
+use Rattle.numbers.specs.Stemming.{line_among, is_firm_text, Findable, Lacking}
 
 -- ---- the line of a text, by the numbers of the first lines
--- the lines from k on are still to be looked at
-pub record Finding (s : Text) (w fs : List ℕ) (text : Text) (f n k : ℕ) : Type 0 where
-  pub seeking : (t : Tally) → Findable s t w fs text f → n ≡ length (texts (view_at s t w)) → Seeking text (texts (view_at s t w)) n k
+-- a number stands where the text does
+same_place : (t : Text) (f : ℕ) (fs : List ℕ) (vs : List Text) → length fs ≡ length vs → ((k : ℕ) → k < length vs → eqb (get_or fs k 0) f ≡ same (get_or vs k []) t)
+    → position_or_len (λ y. eqb y f) fs ≡ index_of t vs
+unfolding index_of
+same_place t f [] [] z e = refl
+same_place t f [] (v ∷ vs) z e = absurd (omega arith)
+same_place t f (n ∷ fs) [] z e = absurd (omega arith)
+same_place t f (n ∷ fs) (v ∷ vs) z e = go (eqb n f) (same v t) (e 0 (omega arith)) (same_place t f fs vs (omega arith) (λ k h. e (suc k) (omega arith)))
+  where
+    go : (b c : Bool) → b ≡ c → {p i : ℕ} → p ≡ i → cond (not b) (1 + p) 0 ≡ cond c 0 (suc i)
+    go true true q r = refl
+    go true false q r = absurd (never true refl q)
+    go false true q r = absurd (never true refl (sym q))
+    go false false q r = omega (arith, r)
 
-pub find_start : (s : Text) (w fs : List ℕ) (text : Text) (f n : ℕ) → Finding s w fs text f n 0
-find_start s w fs text f n = record { seeking = λ t F e. seek_start text (texts (view_at s t w)) n }
+-- `position` with the number of all where it finds none
+or_all : (p : ℕ → Bool) (fs : List ℕ) → unwrap_or (position p fs) (length fs) ≡ position_or_len p fs
+or_all p fs = go (position_or_len p fs) (length fs) (prefix_len-le-length (λ x. not (p x)) fs) (dec_lt (position_or_len p fs) (length fs))
+  where
+    go : (m n : ℕ) → m ≤ n → Dec (m < n) → unwrap_or (cond (ltb m n) (Some m) None) n ≡ m
+    go m n h (yes l) = rw (lt-ltb m n l)
+    go m n h (no l) = rw (le-ltb m n (omega arith)) (omega arith)
 
-module _ (s : Text) (w fs : List ℕ) (text : Text) (f n k : ℕ) where
-  here : (t : Tally) → Findable s t w fs text f → n ≡ length (texts (view_at s t w)) → k < n
-      → index_of text (drop k (texts (view_at s t w))) ≡ cond (eqb (get_or fs k 0) f) 0 (suc (index_of text (drop (suc k) (texts (view_at s t w)))))
-  unfolding index_of
-  here t F e h = rw (drop-cons (texts (view_at s t w)) k [] (omega arith), F.tells k (omega arith))
+pub told : (t : Text) (f : ℕ) (fs : List ℕ) (vs : List Text) (n : ℕ) → n ≡ length vs → n ≤ length fs → ((k : ℕ) → k < n → eqb (get_or fs k 0) f ≡ same (get_or vs k []) t)
+    → unwrap_or (position (λ y. y == f) (take n fs)) n ≡ index_of t vs
+told t f fs vs n q h e =
+    let z : length (take n fs) ≡ n = length-take-le n fs h in
+    ap (unwrap_or (position (λ y. y == f) (take n fs))) (sym z)
+    ∙ or_all (λ y. y == f) (take n fs)
+    ∙ same_place t f (take n fs) vs (z ∙ q) (λ k l. let i : k < n = omega arith in rw (get_or-take n fs k 0 i) (e k i))
 
-  -- it hasn't the text
-  pub find_further : Finding s w fs text f n k → k < n → (get_or fs k 0 ≡ f → ⊥) → Finding s w fs text f n (k + 1)
-  find_further S h e = record {
-    seeking = λ t F q.
-        let vs : List Text = texts (view_at s t w) in
-        let d : index_of text (drop k vs) ≡ suc (index_of text (drop (suc k) vs)) = here t F q h ∙ rw (ne_eqb (get_or fs k 0) f e) in
-        record { due = rw (add-one k) (omega (arith, (S.seeking t F q).due)); ahead = omega arith };
-  }
+-- a text is among others by its index
+pub among_by : (t : Text) (us : List Text) → line_among t us ≡ cond (ltb (index_of t us) (length us)) (Some (index_of t us)) None
+unfolding line_among index_of
+among_by t us = ap (λ (i : ℕ). cond (ltb i (length us)) (Some i) None) (sym (is_position_or_len (index_of t) (λ u. same u t) refl (λ u vs. go (same u t) (index_of t vs)) us))
+  where
+    go : (b : Bool) (i : ℕ) → cond b 0 (suc i) ≡ cond b 0 (1 + i)
+    go true i = refl
+    go false i = omega arith
 
-  module _ (t : Tally) (F : Findable s t w fs text f) (n-is : n ≡ length (texts (view_at s t w))) where
-    abbrev vs : List Text
-    vs = texts (view_at s t w)
-
-    pub find_there : k < n → k < length fs
-    find_there h = omega (arith, F.room)
-
-    -- it has
-    pub find_found : Finding s w fs text f n k → k < n → get_or fs k 0 ≡ f → k ≡ index_of text vs
-    find_found S h e = let d : index_of text (drop k vs) ≡ 0 = here t F n-is h ∙ rw (eq-eqb (get_or fs k 0) f e) in omega (arith, (S.seeking t F n-is).due)
-
-    -- none is left
-    pub find_none : Finding s w fs text f n k → n ≤ k → k ≡ index_of text vs
-    unfolding index_of
-    find_none S h = let S' = S.seeking t F n-is in let d = rw (drop_of_length-le vs {i = k} (omega arith)) at S'.due in omega (arith, S'.ahead)
+-- so do the numbers of the first lines
+pub line_told : (s : Text) (t : Tally) (w fs : List ℕ) (text : Text) (f n : ℕ) → Findable s t w fs text f → n ≡ length (texts (view_at s t w))
+    → (r : Option ℕ) → r ≡ position (λ y. y == f) (take n fs) → r ≡ line_among text (texts (view_at s t w))
+line_told s t w fs text f n F e r p =
+    let vs : List Text = texts (view_at s t w) in
+    let z : length (take n fs) ≡ n = length-take-le n fs (omega (arith, F.room)) in
+    let q : position_or_len (λ y. y == f) (take n fs) ≡ index_of text vs =
+    same_place text f (take n fs) vs (z ∙ e) (λ k l. let i : k < n = omega arith in rw (get_or-take n fs k 0 i) (F.tells k l)) in
+    p ∙ ap₂ (λ (i m : ℕ). cond (ltb i m) (Some i) None) q (z ∙ e) ∙ sym (among_by text vs)
 
 -- ---- strengths
 -- a kind by the tests of its text
@@ -130,14 +148,14 @@ module _ (p path : Text) where
     further e = omega arith
 
     -- the byte behind P is no `/`
-    pub above_apart : (get_or path (length p) 0 ≡ 47 → ⊥) → false ≡ is_under p path
-    above_apart n = under_is p path false (rw (ne_eqb (length path) (length p) further, ne_eqb (get_or path (length p) 0) slash n) (sym (and-false (starts_with p path))))
+    pub above_apart : (get_or path (length p) 0 ≡ 47 → ⊥) → eqb (get_or path (length p) 0) 47 ≡ is_under p path
+    above_apart n =
+        ne_eqb (get_or path (length p) 0) slash n
+        ∙ under_is p path false (rw (ne_eqb (length path) (length p) further, ne_eqb (get_or path (length p) 0) slash n) (sym (and-false (starts_with p path))))
 
     -- it is one: the bytes before it tell
-    pub above_start : (r : Bool) → get_or path (length p) 0 ≡ 47 → r ≡ same p (take (length p) path) → r ≡ is_under p path
-    above_start r e q =
-        under_is p path r
-        (starts_is p path r (omega arith) q ∙ rw (ne_eqb (length path) (length p) further, eq-eqb (get_or path (length p) 0) slash e) (sym (and-true (starts_with p path))))
+    pub above_start : (r : Bool) → get_or path (length p) 0 ≡ 47 → r ≡ starts_with p path → r ≡ is_under p path
+    above_start r e q = under_is p path r (q ∙ rw (ne_eqb (length path) (length p) further, eq-eqb (get_or path (length p) 0) slash e) (sym (and-true (starts_with p path))))
 
 -- a text as long as P`/*` that is another has no strength below P
 pub above_none : (p u : Text) → same u (p ++ bytes "/*") ≡ false → length p + 2 ≤ length u → 0 ≡ stem_strength (prefix p) u
@@ -286,13 +304,20 @@ firm_kind (y ∷ ys) =
     rw (ne_eqb (length (y ∷ ys)) 0 (λ e. omega arith))
     (firm_tests (y ∷ ys) (same (y ∷ ys) (bytes "/")) (starts_with (bytes "/") (y ∷ ys)) (ends_with (bytes "/*") (y ∷ ys)) (starts_with (bytes "*.") (y ∷ ys) && is_extension (drop 2 (y ∷ ys))))
 
-pub firm_is : (t : Text) (z : Bool) → z
-    ≡ cond (eqb (length t) 0) true
-    (cond (same t (bytes "/")) false
-    (starts_with (bytes "/") t))
-    → z ≡ is_firm_text t
+firm_by_tests : (t : Text) (a b r : Bool) → a ≡ eqb (length t) 0 → b ≡ same t (bytes "/") → r ≡ starts_with (bytes "/") t → cond a true (cond b false r) ≡ is_firm_text t
 unfolding is_firm_text
-firm_is t z e = e ∙ firm_kind t
+firm_by_tests t a b r p q e = rw (p, q, e) (firm_kind t)
+
+module _ (t : Text) (a : Bool) (a-is : a ≡ eqb (length t) 0) where
+  pub firm_empty : a ≡ true → a ≡ is_firm_text t
+  firm_empty h = h ∙ (rw h at (firm_by_tests t a (same t (bytes "/")) (starts_with (bytes "/") t) a-is refl refl))
+
+  module _ (h : a ≡ false) (b : Bool) (b-is : b ≡ same t (bytes "/")) where
+    pub firm_default : b ≡ true → not b ≡ is_firm_text t
+    firm_default l = ap not l ∙ (rw (h, l) at (firm_by_tests t a b (starts_with (bytes "/") t) a-is b-is refl))
+
+    pub firm_rooted : b ≡ false → (r : Bool) → r ≡ starts_with (bytes "/") t → r ≡ is_firm_text t
+    firm_rooted l r e = rw (h, l) at (firm_by_tests t a b r a-is b-is e)
 
 module _ (t : Text) (firm : is_firm_text t ≡ true) (full : length t ≡ 0 → ⊥) where
   full_text : same t [] ≡ false

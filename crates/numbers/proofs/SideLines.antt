@@ -7,8 +7,8 @@ use native.Mathlib.Nat.{mod-eq_of_lt, one-mul}
 use native.Mathlib.Numerals.{add-one}
 use native.Mathlib.Decide.{dec_lt}
 use native.Mathlib.Omega.{arith}
-use lib.ListN.{length, get_or, drop, set, length-drop, drop_of_length-le}
-use lib.Seq.{drop-cons}
+use lib.ListN.{length, get_or, take, drop, set, length-drop, drop_of_length-le}
+use lib.Seq.{length-take-le, get_or-drop}
 use lib.Pow.{pow-lt}
 use lib.Dec.{eqb, ltb}
 use lib.Bits.{bit_or}
@@ -24,10 +24,14 @@ use Rattle.grants.specs.Sides.{LineIn, renumbered, access_number, access_roles, 
 use Rattle.grants.proofs.Stores.{Filled, fill_start, fill_more, fill_all}
 use Rattle.firsts.specs.Keeping.{Kept}
 use Rattle.firsts.proofs.Keepings.{kept_then, part_at, part_length, part_behind}
-use Rattle.numbers.specs.Writes.{LinesWritten, Lent, Mapped, view_from, access_number_at, renumbered_by, roles_by, Plain, SideWritten}
+use Rattle.numbers.specs.Writes.{LinesWritten, Lent, LineHeld, Mapped, view_from, access_number_at, renumbered_by, roles_by, Plain, SideWritten}
 use Rattle.numbers.specs.Gaps.{Gapable, GapsLent}
-use Rattle.numbers.proofs.Writings.{Writing, line_there, lent_still, view_still}
+use Rattle.numbers.proofs.Writings.{line_held, lent_still, view_still}
+use Rattle.std.proofs.Common.{Option, ◌==◌}
+use Rattle.std.specs.Option.{unwrap_or}
+use Rattle.std.specs.List.{position}
 use Rattle.text.proofs.Indices.{index_bound}
+use Rattle.numbers.proofs.Searchings.{told}
 
 -- ---- the numbers of a view
 module _ (s : Text) (t : Tally) (w : List ℕ) (H : Holds s t w) where
@@ -163,81 +167,40 @@ renumbered_by_lem ns os map x M = set_same 32 (λ i. ltb i (length ns) && is_in 
     go i (no l) = rw (le-ltb i (length ns) (omega arith))
 
 -- ---- gaps
--- the lines from j on are still to be looked at
-pub record Gapping (v : View) (k n j : ℕ) : Type 0 where
-  pub due : (k + 1) + gap_at v k ≡ j + index_of (get_or (texts v) k []) (drop j (texts v))
-  pub begun : k + 1 ≤ j
-  pub ahead : j ≤ n
+module _ (s : Text) (t : Tally) (w fs : List ℕ) (k n : ℕ) (G : Gapable s t w fs k) (n-is : n ≡ length (texts (view_at s t w))) where
+  abbrev vs : List Text
+  vs = texts (view_at s t w)
 
-pub record GappingTo (s : Text) (w fs : List ℕ) (k f n j : ℕ) : Type 0 where
-  pub own : f ≡ get_or fs k 0
-  pub gapping : (t : Tally) → Gapable s t w fs k → n ≡ length (texts (view_at s t w)) → Gapping (view_at s t w) k n j
-
-module _ (s : Text) (w fs : List ℕ) (k n : ℕ) where
-  -- those behind line k
-  pub gap_start : (f : ℕ) → f ≡ get_or fs k 0 → GappingTo s w fs k f n (k + 1)
+  -- the first of the numbers behind it that is the same
+  pub gap_told : (f : ℕ) (r : Option ℕ) (z : ℕ) → f ≡ get_or fs k 0 → r ≡ position (λ y. y == f) (take (n - (k + 1)) (drop (k + 1) fs))
+      → z ≡ unwrap_or r (length (take (n - (k + 1)) (drop (k + 1) fs))) → z ≡ gap_at (view_at s t w) k
   unfolding gap_at
-  gap_start f e = record { own = e; gapping = λ t G e. record { due = refl; begun = omega arith; ahead = omega (arith, G.inside) } }
-
-  module _ (j : ℕ) where
-    -- line j is looked at
-    here : (t : Tally) → Gapable s t w fs k → n ≡ length (texts (view_at s t w)) → j < n → index_of (get_or (texts (view_at s t w)) k []) (drop j (texts (view_at s t w)))
-        ≡ cond (eqb (get_or fs j 0) (get_or fs k 0)) 0 (suc (index_of (get_or (texts (view_at s t w)) k []) (drop (suc j) (texts (view_at s t w)))))
-    unfolding index_of
-    here t G e h = rw (drop-cons (texts (view_at s t w)) j [] (omega arith), G.alike j k (omega arith) G.inside)
-
-    -- it hasn't the text
-    pub gap_further : (f : ℕ) → GappingTo s w fs k f n j → j < n → (get_or fs j 0 ≡ f → ⊥) → GappingTo s w fs k f n (j + 1)
-    gap_further f D h e = record {
-      own = D.own;
-      gapping = λ t G q.
-          let vs : List Text = texts (view_at s t w) in
-          let D' = D.gapping t G q in
-          let d : index_of (get_or vs k []) (drop j vs) ≡ suc (index_of (get_or vs k []) (drop (suc j) vs)) = here t G q h ∙ rw (ne_eqb (get_or fs j 0) (get_or fs k 0) (λ z. e (z ∙ sym D.own))) in
-          record { due = rw (add-one j) (omega (arith, D'.due)); begun = omega (arith, D'.begun); ahead = omega arith };
-    }
-
-  module _ (t : Tally) (G : Gapable s t w fs k) where
-    abbrev vs : List Text
-    vs = texts (view_at s t w)
-
-    pub gap_there : k < length fs
-    gap_there = omega (arith, G.inside, G.room)
-
-    module _ (n-is : n ≡ length vs) where
-      pub gap_fits : k + 1 ≤ n
-      gap_fits = omega (arith, G.inside)
-
-      module _ (j : ℕ) where
-        pub gap_next : j < n → j < length fs
-        gap_next h = omega (arith, G.room)
-
-        module _ (f : ℕ) (D : GappingTo s w fs k f n j) where
-          pub gap_begun : k + 1 ≤ j
-          gap_begun = (D.gapping t G n-is).begun
-
-          -- it has
-          pub gap_found : j < n → get_or fs j 0 ≡ f → j - (k + 1) ≡ gap_at (view_at s t w) k
-          gap_found h e =
-              let d : index_of (get_or vs k []) (drop j vs) ≡ 0 = here j t G n-is h ∙ rw (eq-eqb (get_or fs j 0) (get_or fs k 0) (e ∙ D.own)) in
-              omega (arith, (D.gapping t G n-is).due)
-
-          -- none is left
-          pub gap_none : n ≤ j → n - (k + 1) ≡ gap_at (view_at s t w) k
-          unfolding index_of
-          gap_none h = let D' = D.gapping t G n-is in let d = rw (drop_of_length-le vs {i = j} (omega arith)) at D'.due in omega (arith, D'.ahead)
+  gap_told f r z e p q =
+      let few : n - (k + 1) ≤ length (drop (k + 1) fs) = omega (arith, G.room, length-drop (k + 1) fs) in
+      let all : n - (k + 1) ≡ length (drop (k + 1) vs) = omega (arith, length-drop (k + 1) vs) in
+      q ∙ rw (length-take-le (n - (k + 1)) (drop (k + 1) fs) few, p)
+      (told (get_or vs k []) f (drop (k + 1) fs) (drop (k + 1) vs) (n - (k + 1)) all few
+      (λ j h. rw (get_or-drop (k + 1) fs j 0, get_or-drop (k + 1) vs j [], e) (G.alike (k + 1 + j) k (omega arith) G.inside)))
 
 -- the numbers of the first lines stay while the gaps are written
-pub gap_lent : (s : Text) (t : Tally) (from f at n k : ℕ) (w₀ w : List ℕ) → GapsLent s t from f at 128 w₀ → Writing s t from at n k gap_at w₀ w → k < n → Gapable s t (part from (from + 1024) w) (part f (f + 128) w) k
-gap_lent s t from f at n k w₀ w G W h =
-    let p : part f (f + 128) w ≡ part f (f + 128) w₀ = part_behind at (at + k) w₀ w W.wrote.kept f (f + 128) (omega (arith, G.apart, W.few)) (omega arith) G.room in
-    let z : length (part f (f + 128) w₀) ≡ f + 128 - f = part_length f (f + 128) w₀ (omega arith) G.room in
-    record {
-      holds = W.lent.held;
-      inside = line_there s t from at n gap_at k w₀ w W h;
-      room = rw p (omega (arith, W.lent.held.proper.few_patterns));
-      alike = rw (W.same, p) G.alike;
-    }
+pub gap_lent : (s : Text) (t : Tally) (from f at n k : ℕ) (w₀ w : List ℕ) → GapsLent s t from f at 128 w₀ → n ≡ length (texts (view_from s t from w₀)) → k < n → Kept at (at + n) w₀ w
+    → LineHeld s t from k w × ((f + 128 ≤ length w) × Gapable s t (part from (from + 1024) w) (part f (f + 128) w) k)
+gap_lent s t from f at n k w₀ w G e h K =
+    let H : LineHeld s t from k w = line_held s t from at w₀ G.lent n k w e h K in
+    let v : view_from s t from w ≡ view_from s t from w₀ = view_still s t from at 128 at (at + n) w₀ w G.lent K G.lent.clear in
+    let p : part f (f + 128) w ≡ part f (f + 128) w₀ = part_behind at (at + n) w₀ w K f (f + 128) (omega (arith, G.apart, G.lent.held.proper.few_patterns)) (omega arith) G.room in
+    let z : length (part f (f + 128) w₀) ≡ f + 128 - f = part_length f (f + 128) w₀ (omega arith) G.room in (
+      H,
+      (
+        omega (arith, G.room, K.size),
+        record {
+          holds = H.held;
+          inside = H.inside;
+          room = rw p (omega (arith, H.held.proper.few_patterns));
+          alike = rw (v, p) G.alike;
+        },
+      ),
+    )
 
 -- ---- the parts put together
 module _ (s : Text) (t : Tally) (from at : ℕ) (w₀ : List ℕ) (L : Lent s t from at 512 w₀) where

@@ -27,10 +27,12 @@ use Rattle.grants.proofs.OwnStems.{own_first}
 use Rattle.firsts.specs.declared.pairs.Pair.{Pair}
 use Rattle.firsts.proofs.Keepings.{part_at, part_length}
 use Rattle.numbers.specs.Writes.{Both, old_texts, new_texts}
-use Rattle.numbers.specs.Stemming.{is_firm_text, soft_best, Findable, Lacking, BestSought, Spottable, SpotIs, last_stem, Fresh, FreshIs, Stemmable, StemOf}
+use Rattle.numbers.specs.Stemming.{line_among, is_firm_text, soft_best, Findable, Lacking, BestSought, Spottable, SpotIs, last_stem, Fresh, FreshIs, Stemmable, StemOf}
 use Rattle.numbers.specs.declared.stems.Stem.{Stem}
 use Rattle.numbers.specs.declared.stems.Spot.{Spot}
-use Rattle.numbers.proofs.Searchings.{kind_by_lem, starred_kind, slashed, root_slashed, by_same}
+use Rattle.numbers.proofs.Searchings.{among_by, kind_by_lem, starred_kind, slashed, root_slashed, by_same}
+use Rattle.std.proofs.Common.{Option, Some, None, is_some, is_none}
+use Rattle.std.specs.Option.{unwrap_or}
 use Rattle.numbers.proofs.Roots.{extension_by_root}
 
 -- ---- what the tests of a text tell
@@ -94,52 +96,92 @@ module _ (s : Text) (t : Tally) (w : List ℕ) (H : Holds s t w) where
   pub index_few : (u : Text) (k : ℕ) → k ≡ index_of u ts → k ≤ 128
   index_few u k e = omega (arith, H.proper.few_patterns, index_bound u ts)
 
-pub soft_by : (t : Text) (k n root z : ℕ) → z ≡ cond (eqb (root % 2) 1) root (cond (leb n k) root (cond (same t (bytes "/")) root (2 * (k + 1)))) → z ≡ soft_best t k n root
+-- ---- where a text is among others
+module _ (t : Text) (us : List Text) where
+  pub among_none : length us ≤ index_of t us → None ≡ line_among t us
+  among_none h = sym (among_by t us ∙ rw (le-ltb (index_of t us) (length us) h))
+
+  pub among_some : (k : ℕ) → k ≡ index_of t us → k < length us → Some k ≡ line_among t us
+  among_some k e h = rw e (sym (among_by t us ∙ rw (lt-ltb (index_of t us) (length us) (omega arith))))
+
+  pub lost_among : None ≡ line_among t us → length us ≤ index_of t us
+  lost_among e = go (dec_lt (index_of t us) (length us))
+    where
+      go : Dec (index_of t us < length us) → length us ≤ index_of t us
+      go (yes l) = let z = e ∙ sym (among_some (index_of t us) refl l) in absurd (never false (sym (ap is_none z)) refl)
+      go (no l) = omega arith
+
+  pub found_among : (k : ℕ) → Some k ≡ line_among t us → (k ≡ index_of t us) × (k < length us)
+  found_among k e = go (dec_lt (index_of t us) (length us))
+    where
+      go : Dec (index_of t us < length us) → (k ≡ index_of t us) × (k < length us)
+      go (yes l) = let z : k ≡ index_of t us = ap (λ (r : Option ℕ). unwrap_or r 0) (e ∙ sym (among_some (index_of t us) refl l)) in (z, omega arith)
+      go (no l) = absurd (never false (sym (ap is_some (e ∙ sym (among_none (omega arith))))) refl)
+
+-- ---- the best line of the stem of an extension, or of `/`
+same_root : (b : Bool) (root : ℕ) → root ≡ cond b root root
+same_root true root = refl
+same_root false root = refl
+
+pub soft_firm : (t : Text) (k : Option ℕ) (root : ℕ) → root % 2 ≡ 1 → root ≡ soft_best t k root
 unfolding soft_best
-soft_by t k n root z e = e
+soft_firm t None root h = refl
+soft_firm t (Some j) root h = rw (eq-eqb (root % 2) 1 h)
+
+soft_default : (t : Text) (root : ℕ) → same t (bytes "/") ≡ true → (k : Option ℕ) → root ≡ soft_best t k root
+unfolding soft_best
+soft_default t root d None = refl
+soft_default t root d (Some j) = rw d (same_root (is_firm_in root) root)
+
+pub soft_slash : (t : Text) (k : Option ℕ) (root : ℕ) (b : Bool) → b ≡ same t (bytes "/") → b ≡ true → root ≡ soft_best t k root
+soft_slash t k root b q d = soft_default t root (sym q ∙ d) k
+
+pub soft_none : (t : Text) (k : Option ℕ) (root : ℕ) → k ≡ None → root ≡ soft_best t k root
+unfolding soft_best
+soft_none t k root e = rw e
+
+pub soft_some : (t : Text) (k : Option ℕ) (root j : ℕ) → k ≡ Some j → (root % 2 ≡ 1 → ⊥) → (b : Bool) → b ≡ same t (bytes "/") → b ≡ false → 2 * (j + 1) ≡ soft_best t k root
+unfolding soft_best
+soft_some t k root j e h b q d = rw (e, ← q, d, ne_eqb (root % 2) 1 h)
+
+-- by the index of the text
+soft_line : (t : Text) (us : List Text) (root : ℕ) → same t (bytes "/") ≡ false → (k : Option ℕ) → k ≡ line_among t us
+    → soft_best t k root ≡ cond (is_firm_in root) root (cond (ltb (index_of t us) (length us)) (2 * (index_of t us + 1)) root)
+unfolding soft_best
+soft_line t us root d None q = rw (le-ltb (index_of t us) (length us) (lost_among t us q)) (same_root (is_firm_in root) root)
+soft_line t us root d (Some j) q = let f = found_among t us j q in rw (d, ← f.0, lt-ltb j (length us) f.1)
 
 -- ---- the best line of the stem of a text
-module _ (s : Text) (t : Tally) (w : List ℕ) (u : Text) (k root : ℕ) (P : BestSought s t w u k root) where
+module _ (s : Text) (t : Tally) (w : List ℕ) (u : Text) (k : Option ℕ) (root : ℕ) (P : BestSought s t w u k root) where
   abbrev us : List Text
   us = texts (view_at s t w)
 
-  pub line_few : k ≤ 128
-  line_few = index_few s t w P.holds u k P.line
+  pub line_few : (j : ℕ) → k ≡ Some j → j ≤ 128
+  line_few j e = index_few s t w P.holds u j (found_among u us j (sym e ∙ P.line)).0
 
-  module _ (n : ℕ) (n-is : n ≡ length us) (r : Bool) (r-is : r ≡ is_firm_text u) where
+  module _ (r : Bool) (r-is : r ≡ is_firm_text u) where
     -- an extension, or `/`
-    pub soft_is : not r ≡ true → (z : ℕ) → z ≡ soft_best u k n root → z ≡ stem_best us (kind_of u)
-    unfolding soft_best is_firm_text
+    pub soft_is : not r ≡ true → (z : ℕ) → z ≡ soft_best u k root → z ≡ stem_best us (kind_of u)
+    unfolding is_firm_text
     soft_is h z e = e ∙ go (kind_of u) refl (shape u)
       where
         soft : (q : PatternKind) → kind_of u ≡ q → 3 ≤ kind_strength q → ⊥
         soft q i l = never (leb 3 (kind_strength (kind_of u))) (rw i (le-leb 3 (kind_strength q) l)) (sym r-is ∙ not-true r h)
 
-        all_root : (b c : Bool) → root ≡ cond b root (cond c root root)
-        all_root true c = refl
-        all_root false true = refl
-        all_root false false = refl
-
-        own : (x : Text) → kind_of u ≡ extension x → same u (bytes "/") ≡ false → cond (is_firm_in root) root (cond (leb n k) root (cond (same u (bytes "/")) root (2 * (k + 1)))) ≡ stem_best us (kind_of u)
+        own : (x : Text) → kind_of u ≡ extension x → same u (bytes "/") ≡ false → soft_best u k root ≡ stem_best us (kind_of u)
         own x i d =
-            ap (λ (b : Bool). cond (is_firm_in root) root (cond (leb n k) root (cond b root (2 * (k + 1))))) d
-            ∙ ap (λ (z : ℕ). cond (is_firm_in root) root z) (at (dec_lt k n))
+            soft_line u us root d k P.line
             ∙ ap (λ (z : ℕ). cond (is_firm_in z) z (cond (ltb (index_of u us) (length us)) (2 * (index_of u us + 1)) z)) P.root_is
             ∙ sym (extension_by_root us u x i)
-          where
-            at : Dec (k < n) → cond (leb n k) root (2 * (k + 1)) ≡ cond (ltb (index_of u us) (length us)) (2 * (index_of u us + 1)) root
-            at (yes l) = rw (lt-leb n k l, ← P.line, ← n-is, lt-ltb k n l)
-            at (no l) = rw (le-leb n k (omega arith), ← P.line, ← n-is, le-ltb k n (omega arith))
 
-        go : (q : PatternKind) → kind_of u ≡ q → Shape u q → cond (is_firm_in root) root (cond (leb n k) root (cond (same u (bytes "/")) root (2 * (k + 1)))) ≡ stem_best us (kind_of u)
+        go : (q : PatternKind) → kind_of u ≡ q → Shape u q → soft_best u k root ≡ stem_best us (kind_of u)
         go (exact q) i d = absurd (soft (exact q) i (omega arith))
         go (prefix q) i d = absurd (soft (prefix q) i (omega arith))
         go (extension x) i d = own x i (not_so (same u (bytes "/")) (λ b. starred x (sym (same_equal u (bytes "/") b) ∙ d.0)))
           where
             starred : (x : Text) → bytes "/" ≡ bytes "*." ++ x → ⊥
             starred x b = let z : ◌≡◌ {A = ℕ} 47 42 = ap (λ (y : Text). get_or y 0 0) b in omega arith
-        go default i d = let b : same u (bytes "/") ≡ true = rw d (same_self (bytes "/")) in
-            ap (λ (c : Bool). cond (is_firm_in root) root (cond (leb n k) root (cond c root (2 * (k + 1))))) b ∙ sym (all_root (is_firm_in root) (leb n k)) ∙ P.root_is ∙ ap (stem_best us) (sym i)
+        go default i d = let b : same u (bytes "/") ≡ true = rw d (same_self (bytes "/")) in sym (soft_default u root b k) ∙ P.root_is ∙ ap (stem_best us) (sym i)
         go unpermitted i d = absurd (never false (rw i at P.permitted) refl)
 
     module _ (h : not r ≡ false) where
@@ -151,14 +193,15 @@ module _ (s : Text) (t : Tally) (w : List ℕ) (u : Text) (k root : ℕ) (P : Be
       firm_text = sym r-is ∙ not-false r h
 
       -- it is none of the lines
-      pub own_none : n ≤ k → Lacking s t w u
-      own_none l = record { holds = P.holds; lacks = omega (arith, P.line) }
+      pub own_none : k ≡ None → Lacking s t w u
+      own_none e = record { holds = P.holds; lacks = lost_among u us (sym e ∙ P.line) }
 
       -- its own line
-      pub own_is : k < n → (p : ℕ) → p ≡ 2 * (k + 1) + 1 → p ≡ stem_best us (kind_of u)
-      own_is l p z =
-          let m : member u us ≡ true = sym (index_member u us) ∙ lt-ltb (index_of u us) (length us) (omega (arith, P.line)) in
-          z ∙ rw P.line (sym (own_first us P.holds.proper.short_patterns u m firm))
+      pub own_is : (j : ℕ) → k ≡ Some j → (p : ℕ) → p ≡ 2 * (j + 1) + 1 → p ≡ stem_best us (kind_of u)
+      own_is j e p z =
+          let f = found_among u us j (sym e ∙ P.line) in
+          let m : member u us ≡ true = sym (index_member u us) ∙ lt-ltb (index_of u us) (length us) (omega (arith, f.0, f.1)) in
+          z ∙ rw f.0 (sym (own_first us P.holds.proper.short_patterns u m firm))
 
 -- what was found by searching
 pub searched : (us : List Text) (u : Text) (x : Leading) (r : ℕ) → x ≡ leading_by (stem_strength (kind_of u)) us → r ≡ best_number x → r ≡ stem_best us (kind_of u)
@@ -202,8 +245,8 @@ firsts_same ts t u h l = go (same t u) refl
         never (same t u) (rw z (same_self u)) e)
 
 -- a line is among them
-pub line_among : (ts : List Text) (i : ℕ) → i < length ts → index_of (get_or ts i []) ts < length ts
-line_among ts i h = ltb-true (index_of (get_or ts i []) ts) (length ts) (index_member (get_or ts i []) ts ∙ member_at ts i h)
+pub among_lines : (ts : List Text) (i : ℕ) → i < length ts → index_of (get_or ts i []) ts < length ts
+among_lines ts i h = ltb-true (index_of (get_or ts i []) ts) (length ts) (index_member (get_or ts i []) ts ∙ member_at ts i h)
 
 module _ (old new : Text) (wo wn : List ℕ) (pair : Pair) (fs : List ℕ) (text : Text) (f : ℕ) (S : Spottable old new wo wn pair fs text f) where
   abbrev ns : List Text
@@ -220,12 +263,14 @@ module _ (old new : Text) (wo wn : List ℕ) (pair : Pair) (fs : List ℕ) (text
     spot_fits = omega (arith, S.both.news.proper.few_patterns, S.size)
 
     -- old has it alone
-    pub spot_old : n ≤ x → SpotIs os ns text (record { in_old = x - n; in_new = n })
+    pub spot_old : n ≤ x → SpotIs os ns text (record { in_old = Some (x - n); in_new = None })
     spot_old h =
-        let b = index_bound text ns in
         let z : length ns ≤ index_of text ns = go (dec_lt (index_of text ns) (length ns)) in
         let p = index_past text ns os z in
-        record { in_old_lem = omega (arith, S.first); in_new_lem = omega arith }
+        record {
+          in_old_lem = among_some text os (x - n) (omega (arith, S.first)) (omega (arith, S.first, S.among, length-append ns os));
+          in_new_lem = among_none text ns z;
+        }
       where
         go : Dec (index_of text ns < length ns) → length ns ≤ index_of text ns
         go (yes l) = absurd (omega (arith, index_front text ns os l, S.first))
@@ -243,10 +288,10 @@ module _ (old new : Text) (wo wn : List ℕ) (pair : Pair) (fs : List ℕ) (text
       }
         where
           old_among : (k : ℕ) → k < length os → index_of (get_or os k []) (ns ++ os) < length (ns ++ os)
-          old_among k l = rw (← get_or-append-add ns os k []) (line_among (ns ++ os) (length ns + k) (omega (arith, length-append ns os)))
+          old_among k l = rw (← get_or-append-add ns os k []) (among_lines (ns ++ os) (length ns + k) (omega (arith, length-append ns os)))
 
-      pub spot_new : (k : ℕ) → k ≡ index_of text os → SpotIs os ns text (record { in_old = k; in_new = x })
-      spot_new k e = record { in_old_lem = e; in_new_lem = go (dec_lt (index_of text ns) (length ns)) }
+      pub spot_new : (k : Option ℕ) → k ≡ line_among text os → SpotIs os ns text (record { in_old = k; in_new = Some x })
+      spot_new k e = record { in_old_lem = e; in_new_lem = among_some text ns x (go (dec_lt (index_of text ns) (length ns))) (omega arith) }
         where
           go : Dec (index_of text ns < length ns) → x ≡ index_of text ns
           go (yes l) = x-is ∙ S.first ∙ index_front text ns os l
@@ -303,29 +348,28 @@ module _ (old new : Text) (wo wn : List ℕ) (pair : Pair) (fs : List ℕ) (last
     before_is : member (get_or bs j []) (take j bs) ≡ ltb f j
     before_is = sym (index_take (get_or bs j []) bs j (omega (arith, S.inside))) ∙ ap (λ (i : ℕ). ltb i j) (sym first_is)
 
-    module _ (x : ℕ) (x-is : x ≡ f) where
-      -- the same text stands before
-      pub stem_again : x < j → StemOf (old_texts old wo pair) (new_texts new wn pair) j (record { sort = 0; in_old = 0; in_new = 0 })
-      stem_again h =
-          let b : member (get_or bs j []) (take j bs) ≡ true = before_is ∙ lt-ltb f j (omega arith) in
-          record { sort = rw b; in_old_lem = λ c. absurd (never (member (get_or bs j []) (take j bs)) b c); in_new_lem = λ c. absurd (never (member (get_or bs j []) (take j bs)) b c) }
+    -- the same text stands before
+    pub stem_again : f < j → StemOf (old_texts old wo pair) (new_texts new wn pair) j (record { sort = 0; in_old = 0; in_new = 0 })
+    stem_again h =
+        let b : member (get_or bs j []) (take j bs) ≡ true = before_is ∙ lt-ltb f j (omega arith) in
+        record { sort = rw b; in_old_lem = λ c. absurd (never (member (get_or bs j []) (take j bs)) b c); in_new_lem = λ c. absurd (never (member (get_or bs j []) (take j bs)) b c) }
 
-      module _ (h : j ≤ x) (text : Text) (text_is : text ≡ get_or bs j []) where
-        pub stem_spot : Spottable old new wo wn pair fs text f
-        stem_spot = record {
-          both = S.both;
-          size = S.size;
-          first = first_is ∙ ap (λ (t : Text). index_of t bs) (sym text_is);
-          among = rw text_is (line_among bs j S.inside);
-          olds = λ l k m.
-              S.firsts (length (new_texts new wn pair) + k) (omega arith) (omega (arith, length-append (new_texts new wn pair) (old_texts old wo pair)))
-              ∙ ap (λ (t : Text). index_of t bs) (get_or-append-add (new_texts new wn pair) (old_texts old wo pair) k []);
-        }
+    module _ (h : j ≤ f) (text : Text) (text_is : text ≡ get_or bs j []) where
+      pub stem_spot : Spottable old new wo wn pair fs text f
+      stem_spot = record {
+        both = S.both;
+        size = S.size;
+        first = first_is ∙ ap (λ (t : Text). index_of t bs) (sym text_is);
+        among = rw text_is (among_lines bs j S.inside);
+        olds = λ l k m.
+            S.firsts (length (new_texts new wn pair) + k) (omega arith) (omega (arith, length-append (new_texts new wn pair) (old_texts old wo pair)))
+            ∙ ap (λ (t : Text). index_of t bs) (get_or-append-add (new_texts new wn pair) (old_texts old wo pair) k []);
+      }
 
-        pub stem_fresh : (spot : Spot) → SpotIs (old_texts old wo pair) (new_texts new wn pair) text spot → Fresh old new wo wn pair text spot last
-        stem_fresh spot P = record { both = S.both; permitted = permitted_at old new wo wn pair S.both text j S.inside text_is; spot_is = P; last_is = S.last_is }
+      pub stem_fresh : (spot : Spot) → SpotIs (old_texts old wo pair) (new_texts new wn pair) text spot → Fresh old new wo wn pair text spot last
+      stem_fresh spot P = record { both = S.both; permitted = permitted_at old new wo wn pair S.both text j S.inside text_is; spot_is = P; last_is = S.last_is }
 
-        pub stem_new : (y : Stem) → FreshIs (old_texts old wo pair) (new_texts new wn pair) text y → StemOf (old_texts old wo pair) (new_texts new wn pair) j y
-        stem_new y F =
-            let b : member (get_or bs j []) (take j bs) ≡ false = before_is ∙ le-ltb f j (omega arith) in
-            record { sort = rw (b, ← text_is) F.sort; in_old_lem = λ c. rw (← text_is) F.in_old_lem; in_new_lem = λ c. rw (← text_is) F.in_new_lem }
+      pub stem_new : (y : Stem) → FreshIs (old_texts old wo pair) (new_texts new wn pair) text y → StemOf (old_texts old wo pair) (new_texts new wn pair) j y
+      stem_new y F =
+          let b : member (get_or bs j []) (take j bs) ≡ false = before_is ∙ le-ltb f j (omega arith) in
+          record { sort = rw (b, ← text_is) F.sort; in_old_lem = λ c. rw (← text_is) F.in_old_lem; in_new_lem = λ c. rw (← text_is) F.in_new_lem }

@@ -13,7 +13,7 @@ use Rattle.entries.specs.declared.tables.Tally.{Tally}
 use Rattle.firsts.proofs.Keepings.{kept_all, kept_set, part_kept}
 use Rattle.firsts.specs.Keeping.{Kept}
 use Rattle.firsts.specs.declared.pairs.Pair.{Pair}
-use Rattle.numbers.specs.Writes.{Wrote, LinesWritten, Lent, view_from, old_view, new_view}
+use Rattle.numbers.specs.Writes.{Wrote, LinesWritten, Lent, LineHeld, view_from, old_view, new_view}
 
 -- ---- what is kept
 -- what is held in a region before what is written is still held, and is the same view
@@ -57,45 +57,20 @@ wrote_more at k v f w₀ w W h e = record {
     go j l (no q) = let i : j ≡ k = omega arith in rw i (get_or-set_same w (at + k) v 0 h ∙ e)
 
 -- ---- the lines of a view, one number for each
--- k of n are written, each by g from the view that is held
-pub record Writing (s : Text) (t : Tally) (from at n k : ℕ) (g : View → ℕ → ℕ) (w₀ w : List ℕ) : Type 0 where
-  pub wrote : Wrote at k (g (view_from s t from w₀)) w₀ w
-  pub all : n ≡ length (texts (view_from s t from w₀))
-  pub same : view_from s t from w ≡ view_from s t from w₀
-  pub lent : Lent s t from at 128 w
-  pub so_far : k ≤ n
-  pub few : n ≤ 128
-
-module _ (s : Text) (t : Tally) (from at n : ℕ) (g : View → ℕ → ℕ) where
-  -- none yet
-  pub write_start : (w : List ℕ) → Lent s t from at 128 w → n ≡ length (texts (view_from s t from w)) → Writing s t from at n 0 g w w
-  write_start w L e = record {
-    wrote = wrote_none at (g (view_from s t from w)) w;
-    all = e;
-    same = refl;
-    lent = L;
-    so_far = omega arith;
-    few = omega (arith, L.held.proper.few_patterns);
+module _ (s : Text) (t : Tally) (from at : ℕ) (w₀ : List ℕ) (L : Lent s t from at 128 w₀) where
+  -- while they are written the next is still one of the view's
+  pub line_held : (n k : ℕ) (w : List ℕ) → n ≡ length (texts (view_from s t from w₀)) → k < n → Kept at (at + n) w₀ w → LineHeld s t from k w
+  line_held n k w e h K = record {
+    held = (lent_still s t from at 128 at (at + n) w₀ w L K L.clear).held;
+    room = omega (arith, L.first, L.clear, L.room, K.size);
+    inside = omega (arith, ap (λ (v : View). length (texts v)) (view_still s t from at 128 at (at + n) w₀ w L K L.clear));
   }
 
-  -- the next line is one of the view's
-  pub line_there : (k : ℕ) (w₀ w : List ℕ) → Writing s t from at n k g w₀ w → k < n → k < length (texts (view_from s t from w))
-  line_there k w₀ w W h = omega (arith, W.all, ap (λ (v : View). length (texts v)) W.same)
+  module _ (g : View → ℕ → ℕ) where
+    -- what is told by the view that is held now is told by the one that was held first
+    pub line_same : (n k r : ℕ) (w : List ℕ) → Kept at (at + n) w₀ w → r ≡ g (view_from s t from w) k → r ≡ g (view_from s t from w₀) k
+    line_same n k r w K e = e ∙ ap (λ (v : View). g v k) (view_still s t from at 128 at (at + n) w₀ w L K L.clear)
 
-  -- one more
-  pub write_more : (k v : ℕ) (w₀ w : List ℕ) → Writing s t from at n k g w₀ w → k < n → v ≡ g (view_from s t from w) k → Writing s t from at n (k + 1) g w₀ (set w (at + k) v)
-  write_more k v w₀ w W h e = record {
-    wrote = wrote_more at k v (g (view_from s t from w₀)) w₀ w W.wrote (omega (arith, W.lent.room, W.few)) (e ∙ ap (λ (u : View). g u k) W.same);
-    all = W.all;
-    same = view_still s t from at 128 at (at + (k + 1)) w (set w (at + k) v) W.lent stored W.lent.clear ∙ W.same;
-    lent = lent_still s t from at 128 at (at + (k + 1)) w (set w (at + k) v) W.lent stored W.lent.clear;
-    so_far = omega arith;
-    few = W.few;
-  }
-    where
-      stored : Kept at (at + (k + 1)) w (set w (at + k) v)
-      stored = kept_set at (at + (k + 1)) w w (at + k) v (kept_all at (at + (k + 1)) w) (omega arith) (omega arith)
-
-  -- all
-  pub write_all : (k : ℕ) (w₀ w : List ℕ) → Writing s t from at n k g w₀ w → n ≤ k → LinesWritten (view_from s t from w₀) g at w₀ w
-  write_all k w₀ w W h = let q : k ≡ length (texts (view_from s t from w₀)) = omega (arith, W.so_far, W.all) in rw q at W.wrote
+    -- all
+    pub lines_all : (n : ℕ) (w : List ℕ) → n ≡ length (texts (view_from s t from w₀)) → Wrote at n (g (view_from s t from w₀)) w₀ w → LinesWritten (view_from s t from w₀) g at w₀ w
+    lines_all n w e W = rw e at W

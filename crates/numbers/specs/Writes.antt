@@ -1,14 +1,10 @@
--- The work table while texts become numbers: what it holds, what a call writes into it, and what it keeps. For the proofs alone.
+-- The scratch while texts become numbers: what a call writes into it, and what it keeps. For the proofs alone.
 use Rattle.std.specs.Prelude.{ℕ, ◌+◌, ◌≤◌, ◌<◌, ◌≡◌, ◌&&◌, List, [], length, get_or, set, eqb, ltb}
 use Rattle.text.specs.Texts.{Text, index_of, part}
 use Rattle.entries.specs.Sets.{set_of, digit}
-use Rattle.reading.specs.Holds.{Holds}
-use Rattle.reading.specs.Views.{View, texts, cover_at, access_at, view_at}
-use Rattle.entries.specs.declared.tables.Tally.{Tally}
-use Rattle.trials.specs.Trials.{joined}
+use Rattle.reading.specs.Views.{View, texts, cover_at, access_at, ProperView}
 use Rattle.grants.specs.Sides.{SideOf, access_number, access_roles, gap_at, PairsOf, PairedUp}
 use Rattle.firsts.specs.Keeping.{Kept}
-use Rattle.firsts.specs.declared.pairs.Pair.{Pair}
 
 -- w is w₀ with the n numbers f 0, f 1, .. from offset at on
 pub record Wrote (at n : ℕ) (f : ℕ → ℕ) (w₀ w : List ℕ) : Type 0 where
@@ -19,45 +15,10 @@ pub record Wrote (at n : ℕ) (f : ℕ → ℕ) (w₀ w : List ℕ) : Type 0 whe
 abbrev pub LinesWritten : View → (View → ℕ → ℕ) → ℕ → List ℕ → List ℕ → Type 0
 LinesWritten v g at w₀ w = Wrote at (length (texts v)) (g v) w₀ w
 
--- ---- what the table holds
--- the two tables hold the old view and the new one
-pub record Both (old new : Text) (wo wn : List ℕ) (pair : Pair) : Type 0 where
-  pub olds : Holds old pair.old wo
-  pub news : Holds new pair.new wn
-
--- the pattern texts that they hold
-abbrev pub old_texts : Text → List ℕ → Pair → List Text
-old_texts old wo pair = texts (view_at old pair.old wo)
-
-abbrev pub new_texts : Text → List ℕ → Pair → List Text
-new_texts new wn pair = texts (view_at new pair.new wn)
-
--- the work table holds both: old in its first 1,024 numbers, new in the next
-abbrev pub BothHeld : Text → Text → List ℕ → Pair → Type 0
-BothHeld old new w pair = Both old new (part 0 1024 w) (part 1024 2048 w) pair
-
--- these views
-abbrev pub old_view : Text → List ℕ → Pair → View
-old_view old w pair = view_at old pair.old (part 0 1024 w)
-
-abbrev pub new_view : Text → List ℕ → Pair → View
-new_view new w pair = view_at new pair.new (part 1024 2048 w)
-
--- the view in the 1,024 numbers from `from` on
-abbrev pub view_from : Text → Tally → ℕ → List ℕ → View
-view_from s t from w = view_at s t (part from (from + 1024) w)
-
--- it holds a view in the 1,024 numbers from `from` on, and has room for z numbers from at on, behind both views
-pub record Lent (s : Text) (t : Tally) (from at z : ℕ) (w : List ℕ) : Type 0 where
-  pub held : Holds s t (part from (from + 1024) w)
-  pub first : from ≤ 1024
-  pub clear : 2048 ≤ at
-  pub room : at + z ≤ length w
-
--- it holds both views, and has room for z numbers from at on, behind them
-pub record BothLent (old new : Text) (pair : Pair) (at z : ℕ) (w : List ℕ) : Type 0 where
-  pub both : BothHeld old new w pair
-  pub clear : 2048 ≤ at
+-- both views are as they should be, and there is room for z numbers from at on
+pub record BothLent (old new : View) (at z : ℕ) (w : List ℕ) : Type 0 where
+  pub olds : ProperView old
+  pub news : ProperView new
   pub room : at + z ≤ length w
 
 -- ---- what is written of line k
@@ -94,17 +55,6 @@ pub record SideWritten (ns : List Text) (v : View) (at : ℕ) (w₀ w : List ℕ
   pub side : SideOf ns v (part at (at + 512) w)
 
 -- ---- the trial methods
--- the methods of both views
-abbrev pub old_methods : Text → List ℕ → Pair → List Text
-old_methods old w pair = (old_view old w pair).methods
-
-abbrev pub new_methods : Text → List ℕ → Pair → List Text
-new_methods new w pair = (new_view new w pair).methods
-
--- those of new, then further ones of old
-abbrev pub named : Text → Text → List ℕ → Pair → List Text
-named old new w pair = joined (new_methods new w pair) (old_methods old w pair)
-
 -- the methods ms are paired in the 128 numbers from offset at on, by their numbers among os and ns
 pub record PairsWritten (os ns ms : List Text) (at : ℕ) (w₀ w : List ℕ) : Type 0 where
   pub kept : Kept at (at + 128) w₀ w

@@ -10,7 +10,6 @@
 --   Cuts        lines: a text cut at its tabs and bytes 10
 --   Lineheads   how a line begins
 --   Linecuts    a line cut at an offset, and what it comes to
---   Tokens      what the walks over the struct that holds the text share
 --   Walks       from a record's step to its line, and on to the whole reading
 --   Loads       the whole of reading
 -- Without code, that reading over tables is reading, and that the tables picture the listing:
@@ -28,7 +27,6 @@ pub mod Cuts
 pub mod Walks
 pub mod Lineheads
 pub mod Linecuts
-pub mod Tokens
 pub mod Loads
 pub mod Numberings
 pub mod Coverings

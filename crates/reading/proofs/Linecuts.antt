@@ -1,104 +1,146 @@
 -- The line that the reader cuts: that the pieces are the definition's, and what the line comes to by them.
-use mathlib.Core.Path.{◌≡◌, sym, ap, ◌∙◌}
-use mathlib.Core.Bool.{Bool, true, false}
+use mathlib.Core.Path.{◌≡◌, refl, sym, ap, ◌∙◌}
+use mathlib.Core.Bool.{Bool, true, false, not, cond}
 use mathlib.Core.List.{List}
 use Prim.Native.Nat.{ℕ, ◌+◌, ◌≤◌, ◌<◌}
 use native.Mathlib.Omega.{arith}
 use native.Mathlib.Decide.{dec_lt}
 use lib.ListN.{length, drop, get_or, get_or-eq_default}
 use lib.Dec.{eqb}
-use borrow.Author.Tests.{ne_eqb, eqb-true, eqb-false}
+use borrow.Author.Tests.{ne_eqb, eqb-true, eqb-false, not-true, not-false}
 use Rattle.text.specs.Texts.{Text, newline, part, all}
 use Rattle.text.specs.Bytes.{is_text}
 use Rattle.text.specs.Lines.{lines_of, to_field_end}
-use Rattle.listings.specs.Records.{record_named}
 use Rattle.listings.specs.Heads.{head_of}
-use Rattle.entries.specs.Tables.{Tables}
+use Rattle.entries.specs.Tables.{Tables, record_with}
 use Rattle.reading.specs.Fillings.{line_with, line_from, LineOutcome}
-use Rattle.reading.specs.Cuts.{cut_of}
+use Rattle.reading.specs.Cuts.{end_of, cut_with, cut_of}
+use Rattle.listings.specs.declared.records.Kind.{Kind}
 use Rattle.listings.specs.declared.records.Headed.{Headed}
 use Rattle.reading.specs.declared.lines.Cut.{Cut}
 use Rattle.reading.specs.declared.reader.Cursor.{Cursor}
 use Rattle.reading.specs.declared.reader.Lined.{Lined}
-use Rattle.reading.specs.declared.reader.Lined.TheVariants.{Bad}
+use Rattle.listings.specs.declared.answers.Fault.{Fault}
+use Rattle.std.specs.Prelude.{Option, Some, None, Result, Err}
+use mathlib.Core.Option.{some}
 use Rattle.listings.specs.declared.answers.Fault.TheVariants.{BadForm}
 use Rattle.text.proofs.Truths.{never}
 use Rattle.text.proofs.Spans.{from_on}
-use Rattle.reading.proofs.Lineheads.{head_unended, head_tabbed, head_whole}
+use Rattle.reading.proofs.Lineheads.{head_none, head_unended, head_tabbed, head_whole}
+
+-- one is not none
+unlike : {A : Type 0} (x : A) → Some x ≡ None → ⊥
+unlike {A = A} x e = let z : ◌≡◌ {A = ℕ} 0 1 = ap number e in omega arith
+  where
+    number : Option A → ℕ
+    number None = 1
+    number (Some y) = 0
 
 -- ---- the pieces
 -- no byte 10 stands behind the text
 pub none_behind : (s : Text) (e : ℕ) → length s ≤ e → false ≡ eqb (get_or s e 0) newline
 none_behind s e h = sym (rw (get_or-eq_default s 0 h) (ne_eqb 0 10 (λ q. omega arith)))
 
-pub cut_is : (s : Text) (at : ℕ) (d : Headed) (e : ℕ) (b w : Bool)
-    → d ≡ head_of (part at (length s) s) → e ≡ at + d.size + to_field_end (drop (at + d.size) s) → b ≡ all is_text (part (at + d.size) e s) → w ≡ eqb (get_or s e 0) newline
-    → record { named = d.named; from = at + d.size; end = e; clean = b; whole = w } ≡ cut_of s at
-unfolding cut_of
-cut_is s at d e b w h k c n = rw (n, c, k, h, from_on at s)
+module _ (s : Text) (at : ℕ) (r : Option Headed) (h : r ≡ head_of (part at (length s) s)) where
+  by_head : cut_of s at ≡ cut_with s at r
+  unfolding cut_of
+  by_head = ap (λ (t : Text). cut_with s at (head_of t)) (sym (from_on at s)) ∙ ap (cut_with s at) (sym h)
+
+  -- no record is named
+  pub cut_none : r ≡ None → None ≡ cut_of s at
+  cut_none n = sym (by_head ∙ ap (cut_with s at) n)
+
+  module _ (d : Headed) (k : r ≡ Some d) (e : ℕ) (q : e ≡ at + d.size + to_field_end (drop (at + d.size) s)) (w : Bool) (n : w ≡ eqb (get_or s e 0) newline) where
+    -- no byte 10 stands behind it
+    pub cut_open : not w ≡ true → None ≡ cut_of s at
+    cut_open y = sym (by_head ∙ ap (cut_with s at) k ∙ rw (← q, ← n, not-true w y))
+
+    pub cut_is : (b : Bool) → b ≡ all is_text (part (at + d.size) e s) → not w ≡ false
+        → Some (record { kind = d.kind; from = at + d.size; end = e; clean = b }) ≡ cut_of s at
+    cut_is b c y = sym (by_head ∙ ap (cut_with s at) k ∙ rw (← q, ← n, not-false w y, c))
 
 -- ---- what the line comes to
-module _ (s : Text) (c : Cursor) (r : Cut) (is : r ≡ cut_of s c.at) where
-  abbrev head : Headed
-  head = head_of (drop c.at s)
+-- what a whole line's cut says
+record Cutting (s : Text) (at : ℕ) (r : Cut) : Type 0 where
+  head : Headed
+  known : head_of (drop at s) ≡ Some head
+  kind : r.kind ≡ head.kind
+  from : r.from ≡ at + head.size
+  end : r.end ≡ at + head.size + to_field_end (drop (at + head.size) s)
+  clean : r.clean ≡ all is_text (part r.from r.end s)
+  stop : eqb (get_or s r.end 0) newline ≡ true
 
-  cut_end : r.end ≡ c.at + head.size + to_field_end (drop (c.at + head.size) s)
+cutting : (s : Text) (at : ℕ) (r : Cut) → Some r ≡ cut_of s at → Cutting s at r
+unfolding cut_of
+cutting s at r is = go (head_of (drop at s)) refl is
+  where
+    go : (o : Option Headed) → head_of (drop at s) ≡ o → Some r ≡ cut_with s at o → Cutting s at r
+    go None e q = absurd (unlike r q)
+    go (Some d) e q = how (eqb (get_or s (end_of s (at + d.size)) 0) newline) refl q
+      where
+        whole : Cut
+        whole = record { kind = d.kind; from = at + d.size; end = end_of s (at + d.size); clean = all is_text (part (at + d.size) (end_of s (at + d.size)) s) }
+
+        how : (b : Bool) → eqb (get_or s (end_of s (at + d.size)) 0) newline ≡ b → Some r ≡ cond b (Some whole) None → Cutting s at r
+        how false z i = absurd (unlike r i)
+        how true z i =
+            let m : r ≡ whole = cc in
+            rw m (record { head = d; known = e; kind = refl; from = refl; end = refl; clean = refl; stop = z })
+
+-- of the reader's cut o, whatever it is
+module _ (s : Text) (c : Cursor) (o : Option Cut) (is : o ≡ cut_of s c.at) (h : c.at < length s) (T : Tables) (w : List ℕ) where
+  pub cut_bad : o ≡ None → LineOutcome s c (line_from T (lines_of (drop c.at s))) (Err BadForm) w
   unfolding cut_of
-  cut_end = rw is
-
-  cut_named : r.named ≡ head.named
-  unfolding cut_of
-  cut_named = rw is
-
-  cut_from : r.from ≡ c.at + head.size
-  unfolding cut_of
-  cut_from = rw is
-
-  -- the field's end lies behind its begin, and behind the line's
-  pub cut_field : r.from ≤ r.end
-  cut_field = omega (arith, cut_end, cut_from)
-
-  pub cut_behind : c.at ≤ r.end
-  cut_behind = omega (arith, cut_end)
-
-  pub cut_clean : r.clean ≡ all is_text (part r.from r.end s)
-  unfolding cut_of
-  cut_clean = rw is
-
-  cut_stop : r.whole ≡ eqb (get_or s r.end 0) newline
-  unfolding cut_of
-  cut_stop = rw is
-
-  cut_newline : r.whole ≡ true → get_or s r.end 0 ≡ 10
-  cut_newline g = eqb-true (get_or s r.end 0) newline (sym cut_stop ∙ g)
-
-  -- a whole line's end is a byte of the text
-  pub cut_here : r.whole ≡ true → r.end < length s
-  cut_here g = how (dec_lt r.end (length s))
+  cut_bad n = go (head_of (drop c.at s)) refl (sym n ∙ is)
     where
-      how : Dec (r.end < length s) → r.end < length s
-      how (yes i) = i
-      how (no i) = absurd (never r.whole g (cut_stop ∙ sym (none_behind s r.end (omega arith))))
+      go : (x : Option Headed) → head_of (drop c.at s) ≡ x → ◌≡◌ {A = Option Cut} None (cut_with s c.at x)
+          → LineOutcome s c (line_from T (lines_of (drop c.at s))) (Err BadForm) w
+      go None e q = head_none s c T h w e
+      go (Some d) e q = how (eqb (get_or s end 0) newline) refl (dec_lt end (length s)) q
+        where
+          end : ℕ
+          end = end_of s (c.at + d.size)
 
-  pub cut_within : r.whole ≡ true → r.end ≤ length s
-  cut_within g = omega (arith, cut_here g)
+          whole : Cut
+          whole = record { kind = d.kind; from = c.at + d.size; end = end; clean = all is_text (part (c.at + d.size) end s) }
 
-  module _ (T : Tables) (w : List ℕ) (h : c.at < length s) where
-    named_is : head ≡ head_of (part c.at (length s) s)
-    named_is = ap head_of (sym (from_on c.at s))
+          how : (b : Bool) → eqb (get_or s end 0) newline ≡ b → Dec (end < length s) → ◌≡◌ {A = Option Cut} None (cond b (Some whole) None)
+              → LineOutcome s c (line_from T (lines_of (drop c.at s))) (Err BadForm) w
+          how true z i j = absurd (unlike whole (sym j))
+          how false z (yes i) j = head_tabbed s c T h w d end e refl i (eqb-false (get_or s end 0) newline z)
+          how false z (no i) j = head_unended s c T h w d end e refl (omega arith)
 
-    pub cut_bad : r.whole ≡ false → LineOutcome s c (line_from T (lines_of (drop c.at s))) (Bad BadForm) w
-    cut_bad g = how (dec_lt r.end (length s))
+  module _ (r : Cut) (k : o ≡ Some r) where
+    says : Cutting s c.at r
+    says = cutting s c.at r (sym k ∙ is)
+
+    -- the field's end lies behind its begin, and behind the line's
+    pub cut_field : r.from ≤ r.end
+    cut_field = omega (arith, says.end, says.from)
+
+    pub cut_behind : c.at ≤ r.end
+    cut_behind = omega (arith, says.end)
+
+    pub cut_clean : r.clean ≡ all is_text (part r.from r.end s)
+    cut_clean = says.clean
+
+    -- a whole line's end is a byte of the text
+    pub cut_here : r.end < length s
+    cut_here = how (dec_lt r.end (length s))
       where
-        how : Dec (r.end < length s) → LineOutcome s c (line_from T (lines_of (drop c.at s))) (Bad BadForm) w
-        how (yes i) = head_tabbed s c T head r.end w named_is h cut_end i (eqb-false (get_or s r.end 0) newline (sym cut_stop ∙ g))
-        how (no i) = head_unended s c T head r.end w named_is h cut_end (omega arith)
+        how : Dec (r.end < length s) → r.end < length s
+        how (yes i) = i
+        how (no i) = absurd (never true refl (sym says.stop ∙ sym (none_behind s r.end (omega arith))))
 
-    pub cut_whole : (l : Lined) → r.whole ≡ true
-        → LineOutcome s c (line_with T (record_named r.named (part r.from r.end s)) (lines_of (drop (r.end + 1) s))) l w
+    pub cut_within : r.end ≤ length s
+    cut_within = omega (arith, cut_here)
+
+    pub cut_whole : (l : Result Lined Fault)
+        → LineOutcome s c (line_with T (some (record_with r.kind (part r.from r.end s))) (lines_of (drop (r.end + 1) s))) l w
         → LineOutcome s c (line_from T (lines_of (drop c.at s))) l w
-    cut_whole l g o = head_whole s c T head r.end w named_is h cut_end l (cut_here g) (cut_newline g) (as_head o)
+    cut_whole l g = head_whole s c T h w says.head r.end says.known says.end l cut_here (eqb-true (get_or s r.end 0) newline says.stop) (headed r.kind r.from says.kind says.from g)
       where
-        as_head : LineOutcome s c (line_with T (record_named r.named (part r.from r.end s)) (lines_of (drop (r.end + 1) s))) l w
-            → LineOutcome s c (line_with T (record_named head.named (part (c.at + head.size) r.end s)) (lines_of (drop (r.end + 1) s))) l w
-        as_head o = rw (cut_named, cut_from) at o
+        headed : (k' : Kind) (a : ℕ) → k' ≡ says.head.kind → a ≡ c.at + says.head.size
+            → LineOutcome s c (line_with T (some (record_with k' (part a r.end s))) (lines_of (drop (r.end + 1) s))) l w
+            → LineOutcome s c (line_with T (some (record_with says.head.kind (part (c.at + says.head.size) r.end s))) (lines_of (drop (r.end + 1) s))) l w
+        headed k' a p q g = rw (p, q) at g

@@ -1,5 +1,5 @@
 -- How a line begins, and what it comes to: the code looks for a record's name and the byte behind it, and scans the field alone.
-use mathlib.Core.Path.{◌≡◌, refl, sym, ap, ◌∙◌}
+use mathlib.Core.Path.{◌≡◌, refl, sym, ap, subst, ◌∙◌}
 use mathlib.Core.Bool.{Bool, true, false, not, cond}
 use mathlib.Core.List.{List, [], ◌∷◌, ◌++◌}
 use Prim.Native.Nat.{ℕ, suc, ◌+◌, ◌≤◌, ◌<◌}
@@ -12,18 +12,18 @@ use lib.Dec.{eqb}
 use borrow.Author.Tests.{ne_eqb, eq-eqb, eqb-true, eqb-false, not-true}
 use Rattle.text.specs.Texts.{Text, bytes, tab, newline, part, same, all, starts_with}
 use Rattle.text.specs.Lines.{lines_of, to_field_end}
-use Rattle.listings.specs.Records.{alone, with_field, record_named}
+use Rattle.listings.specs.Records.{Named, alone, with_field, record_named}
 use Rattle.listings.specs.Heads.{head_of_part, head_of}
-use Rattle.entries.specs.Tables.{Tables}
-use Rattle.reading.specs.Fillings.{bad, line_with, line_from, LineOutcome}
+use Rattle.entries.specs.Tables.{Tables, record_with}
+use Rattle.reading.specs.Fillings.{Lining, bad, line_with, line_from, LineOutcome}
 use Rattle.listings.specs.declared.records.Kind.{Kind}
 use Rattle.listings.specs.declared.records.Kind.TheVariants.{Role, Constraint, Allow, Collection, Pattern, Method, Omit, End}
-use Rattle.listings.specs.declared.records.Named.{Named}
-use Rattle.listings.specs.declared.records.Named.TheVariants.{Known, Unknown}
+use Rattle.listings.specs.declared.answers.Fault.{Fault}
+use Rattle.std.specs.Prelude.{Option, Some, None, Result, Err}
+use mathlib.Core.Option.{some}
 use Rattle.listings.specs.declared.records.Headed.{Headed}
 use Rattle.reading.specs.declared.reader.Cursor.{Cursor}
 use Rattle.reading.specs.declared.reader.Lined.{Lined}
-use Rattle.reading.specs.declared.reader.Lined.TheVariants.{Bad}
 use Rattle.listings.specs.declared.answers.Fault.TheVariants.{BadForm}
 use Rattle.text.proofs.Truths.{never, and_left, and_right}
 use Rattle.text.proofs.Spans.{from_on}
@@ -101,8 +101,8 @@ module _ (s : Text) (at : ℕ) (n : Text) (f : Field n) (c : ℕ) (stop : stops 
   name_is = rw add-sub_cancel_left (ap (take (length n)) name_first ∙ take-append_seam n (c ∷ behind))
 
 -- a name and a tab
-begun_tab : (s : Text) (at : ℕ) (n : Text) (k : Kind) (size : ℕ) → Field n → with_field n ≡ Known k → size ≡ length n + 1
-    → starts_with (n ++ tab ∷ []) (drop at s) ≡ true → Begun s at (at + size) (Known k)
+begun_tab : (s : Text) (at : ℕ) (n : Text) (k : Kind) (size : ℕ) → Field n → with_field n ≡ Some k → size ≡ length n + 1
+    → starts_with (n ++ tab ∷ []) (drop at s) ≡ true → Begun s at (at + size) (Some k)
 begun_tab s at n k size f known long starts = record {
   unended = λ T e q g. line_unended_second s at p e ends within other (along e q) T g;
   tabbed = λ T e q g m. line_third s at p e ends within other (along e q) T g m;
@@ -133,8 +133,8 @@ unfolding to_field_end
 none_before s p h e = rw (drop-cons s p 0 h, e)
 
 -- a name and a byte 10
-begun_newline : (s : Text) (at : ℕ) (n : Text) (k : Kind) (size : ℕ) → at < length s → Field n → alone n ≡ Known k → size ≡ length n
-    → starts_with (n ++ newline ∷ []) (drop at s) ≡ true → Begun s at (at + size) (Known k)
+begun_newline : (s : Text) (at : ℕ) (n : Text) (k : Kind) (size : ℕ) → at < length s → Field n → alone n ≡ Some k → size ≡ length n
+    → starts_with (n ++ newline ∷ []) (drop at s) ≡ true → Begun s at (at + size) (Some k)
 begun_newline s at n k size h f known long starts = record {
   unended = λ T e q g. let y = here e q in absurd (omega (arith, within));
   tabbed = λ T e q g m. absurd (m (rw (here e q) stop));
@@ -165,14 +165,14 @@ module _ (s : Text) (at e : ℕ) (q : e ≡ at + to_field_end (drop at s)) (g : 
   other_paired n u f x = sym (starts_name (field_cut s at e q) f tab (drop (e + 1) s) refl) ∙ rw (← field_tabbed s at e q g n) x
 
   unknown_alone : get_or s e 0 ≡ 10 → starts_with (bytes "collection\n") (drop at s) ≡ false → starts_with (bytes "end\n") (drop at s) ≡ false
-      → alone (part at e s) ≡ Unknown
+      → alone (part at e s) ≡ None
   unfolding alone all
   unknown_alone n y z = rw (other_alone n (bytes "collection") (field_is _ refl) y, other_alone n (bytes "end") (field_is _ refl) z)
 
   unknown_paired : (get_or s e 0 ≡ 10 → ⊥)
       → starts_with (bytes "method\t") (drop at s) ≡ false → starts_with (bytes "omit\t") (drop at s) ≡ false → starts_with (bytes "pattern\t") (drop at s) ≡ false
       → starts_with (bytes "allow\t") (drop at s) ≡ false → starts_with (bytes "role\t") (drop at s) ≡ false → starts_with (bytes "constraint\t") (drop at s) ≡ false
-      → with_field (part at e s) ≡ Unknown
+      → with_field (part at e s) ≡ None
   unfolding with_field all
   unknown_paired n m o p l r c =
       rw (
@@ -185,7 +185,7 @@ module _ (s : Text) (at e : ℕ) (q : e ≡ at + to_field_end (drop at s)) (g : 
       )
 
   -- whatever stands behind its tab
-  unpaired : (get_or s e 0 ≡ 10 → ⊥) → with_field (part at e s) ≡ Unknown → (T : Tables) → line_from T (lines_of (drop at s)) ≡ bad BadForm
+  unpaired : (get_or s e 0 ≡ 10 → ⊥) → with_field (part at e s) ≡ None → (T : Tables) → line_from T (lines_of (drop at s)) ≡ bad BadForm
   unpaired n u T = go (e + 1 + to_field_end (drop (e + 1) s)) refl
     where
       go : (d : ℕ) → d ≡ e + 1 + to_field_end (drop (e + 1) s) → line_from T (lines_of (drop at s)) ≡ bad BadForm
@@ -199,7 +199,7 @@ module _ (s : Text) (at e : ℕ) (q : e ≡ at + to_field_end (drop at s)) (g : 
 begun_unknown : (s : Text) (at : ℕ) → at < length s
     → starts_with (bytes "method\t") (drop at s) ≡ false → starts_with (bytes "omit\t") (drop at s) ≡ false → starts_with (bytes "pattern\t") (drop at s) ≡ false
     → starts_with (bytes "allow\t") (drop at s) ≡ false → starts_with (bytes "role\t") (drop at s) ≡ false → starts_with (bytes "constraint\t") (drop at s) ≡ false
-    → starts_with (bytes "collection\n") (drop at s) ≡ false → starts_with (bytes "end\n") (drop at s) ≡ false → Begun s at at Unknown
+    → starts_with (bytes "collection\n") (drop at s) ≡ false → starts_with (bytes "end\n") (drop at s) ≡ false → Begun s at at None
 begun_unknown s at h m o p l r c y z = record {
   unended = λ T e q g. line_unended s at e q T h g;
   tabbed = λ T e q g n. unpaired s at e q g n (unknown_paired s at e q g n m o p l r c) T;
@@ -207,12 +207,22 @@ begun_unknown s at h m o p l r c y z = record {
 }
 
 -- ---- the head's ladder
-begun_by : (s : Text) (at : ℕ) (b : Bool) (x y : Headed) → (b ≡ true → Begun s at (at + x.size) x.named) → (b ≡ false → Begun s at (at + y.size) y.named)
-    → Begun s at (at + (cond b x y).size) (cond b x y).named
+abbrev size_of : Option Headed → ℕ
+size_of None = 0
+size_of (Some d) = d.size
+
+abbrev named_of : Option Headed → Named
+named_of None = None
+named_of (Some d) = Some d.kind
+
+abbrev BegunBy : Text → ℕ → Option Headed → Type 0
+BegunBy s at d = Begun s at (at + size_of d) (named_of d)
+
+begun_by : (s : Text) (at : ℕ) (b : Bool) (x y : Option Headed) → (b ≡ true → BegunBy s at x) → (b ≡ false → BegunBy s at y) → BegunBy s at (cond b x y)
 begun_by s at true x y h k = h refl
 begun_by s at false x y h k = k refl
 
-begun : (s : Text) (at : ℕ) → at < length s → Begun s at (at + (head_of (drop at s)).size) (head_of (drop at s)).named
+begun : (s : Text) (at : ℕ) → at < length s → BegunBy s at (head_of (drop at s))
 unfolding head_of head_of_part all with_field alone
 begun s at h =
     begun_by s at _ _ _ (begun_tab s at (bytes "method") Method 7 (field_is _ refl) refl refl)
@@ -226,18 +236,36 @@ begun s at h =
     (λ z. rw (add-zero at) (begun_unknown s at h m o p l r c y z)))))))))
 
 -- ---- the line at the cursor, by its head and where its field ends
-module _ (s : Text) (c : Cursor) (T : Tables) (d : Headed) (e : ℕ) (w : List ℕ)
-    (q : d ≡ head_of (part c.at (length s) s)) (h : c.at < length s) (k : e ≡ c.at + d.size + to_field_end (drop (c.at + d.size) s)) where
-  begins : Begun s c.at (c.at + d.size) d.named
-  begins = rw (q, from_on c.at s) (begun s c.at h)
+module _ (s : Text) (c : Cursor) (T : Tables) (h : c.at < length s) (w : List ℕ) where
+  abbrev due : Lining
+  due = line_from T (lines_of (drop c.at s))
 
-  pub head_unended : length s ≤ e → LineOutcome s c (line_from T (lines_of (drop c.at s))) (Bad BadForm) w
-  head_unended g = line_bad s c _ BadForm w (begins.unended T e k g)
+  -- no record, wherever its field ends
+  pub head_none : head_of (drop c.at s) ≡ None → LineOutcome s c due (Err BadForm) w
+  head_none q = line_bad s c due BadForm w (how (dec_lt e (length s)) (eqb (get_or s e 0) 10) refl)
+    where
+      begins : Begun s c.at (c.at + 0) None
+      begins = subst (BegunBy s c.at) q (begun s c.at h)
 
-  pub head_tabbed : e < length s → (get_or s e 0 ≡ 10 → ⊥) → LineOutcome s c (line_from T (lines_of (drop c.at s))) (Bad BadForm) w
-  head_tabbed g m = line_bad s c _ BadForm w (begins.tabbed T e k g m)
+      e : ℕ
+      e = c.at + 0 + to_field_end (drop (c.at + 0) s)
 
-  pub head_whole : (r : Lined) → e < length s → get_or s e 0 ≡ 10
-      → LineOutcome s c (line_with T (record_named d.named (part (c.at + d.size) e s)) (lines_of (drop (e + 1) s))) r w
-      → LineOutcome s c (line_from T (lines_of (drop c.at s))) r w
-  head_whole r g z o = line_by s c _ _ r w (begins.whole T e k g z) o
+      how : Dec (e < length s) → (b : Bool) → eqb (get_or s e 0) 10 ≡ b → due ≡ bad BadForm
+      how (no i) b j = begins.unended T e refl (omega arith)
+      how (yes i) true j = begins.whole T e refl i (eqb-true (get_or s e 0) 10 j)
+      how (yes i) false j = begins.tabbed T e refl i (eqb-false (get_or s e 0) 10 j)
+
+  module _ (d : Headed) (e : ℕ) (q : head_of (drop c.at s) ≡ Some d) (k : e ≡ c.at + d.size + to_field_end (drop (c.at + d.size) s)) where
+    begins : Begun s c.at (c.at + d.size) (Some d.kind)
+    begins = subst (BegunBy s c.at) q (begun s c.at h)
+
+    pub head_unended : length s ≤ e → LineOutcome s c due (Err BadForm) w
+    head_unended g = line_bad s c due BadForm w (begins.unended T e k g)
+
+    pub head_tabbed : e < length s → (get_or s e 0 ≡ 10 → ⊥) → LineOutcome s c due (Err BadForm) w
+    head_tabbed g m = line_bad s c due BadForm w (begins.tabbed T e k g m)
+
+    pub head_whole : (r : Result Lined Fault) → e < length s → get_or s e 0 ≡ 10
+        → LineOutcome s c (line_with T (some (record_with d.kind (part (c.at + d.size) e s))) (lines_of (drop (e + 1) s))) r w
+        → LineOutcome s c due r w
+    head_whole r g z o = line_by s c due _ r w (begins.whole T e k g z) o

@@ -13,69 +13,60 @@ use lib.Seq.{drop-cons}
 use lib.ListN.{length, drop, get_or, drop_of_length-le}
 use Rattle.text.specs.Texts.{Text, newline}
 use Rattle.text.specs.Lines.{Line, before, lines_of}
-use Rattle.listings.specs.Records.{Record, is_kind, formed, record_named}
+use Rattle.listings.specs.Records.{Record, is_kind, formed}
 use Rattle.entries.specs.Tables.{Tables, Fits, Stepping, next, wrong, start_tables, region, texts_at, spans_at, step_from, record_with, tables_at, StepFits, StepOutcome}
 use Rattle.reading.specs.Fillings.{Lining, bad, moved, ended, Filling, unfilled, closing, fill_from, fill_shown, FillFits, FillOutcome, closed_at, line_shown, is_end_kind, lined_by, line_with, line_from, LineEnd, Gone, LineFits, LineOutcome}
 use Rattle.reading.specs.Readers.{Ready}
 use Rattle.entries.specs.Tallies.{start_tally}
-use Rattle.reading.specs.declared.reader.Loaded.{Loaded}
-use Rattle.reading.specs.declared.reader.Loaded.TheVariants.{Whole, Not}
+use Rattle.reading.specs.declared.reader.Refusal.{Refusal}
 use Rattle.listings.specs.declared.records.Kind.{Kind}
 use Rattle.listings.specs.declared.records.Kind.TheVariants.{End}
-use Rattle.listings.specs.declared.records.Named.{Named}
-use Rattle.listings.specs.declared.records.Named.TheVariants.{Known, Unknown}
 use Rattle.listings.specs.declared.answers.Fault.{Fault}
 use Rattle.listings.specs.declared.answers.Fault.TheVariants.{BadForm, NoEnd}
 use Rattle.entries.specs.declared.tables.Tally.{Tally}
-use Rattle.entries.specs.declared.steps.Stepped.{Stepped}
-use Rattle.entries.specs.declared.steps.Stepped.TheVariants.{Next, Wrong}
+use Rattle.std.specs.Prelude.{Result, Ok, Err}
 use Rattle.reading.specs.declared.reader.Cursor.{Cursor}
 use Rattle.reading.specs.declared.reader.Lined.{Lined}
-use Rattle.reading.specs.declared.reader.Lined.TheVariants.{Moved, Ended, Bad}
-
--- ---- a line of no record
-pub named_unknown : (s : Text) (c : Cursor) (T : Tables) (n : Named) (f : Text) (ls : List Line) (w : List ℕ) → n ≡ Unknown
-    → LineOutcome s c (line_with T (record_named n f) ls) (Bad BadForm) w
-named_unknown s c T n f ls w q = record { answer = rw q; fits = tt }
+use Rattle.reading.specs.declared.reader.Lined.TheVariants.{Moved, Ended}
 
 -- ---- a line of a record, by its step
-module _ (s : Text) (c : Cursor) (T : Tables) (n : Named) (k : Kind) (f : Text) (e : ℕ) (out : Stepped) (w : List ℕ) (q : n ≡ Known k) (o : StepOutcome s (step_from T (record_with k f)) out w) where
-  pub named_wrong : (g : Fault) → out ≡ Wrong g → LineOutcome s c (line_with T (record_named n f) (lines_of (drop (e + 1) s))) (Bad g) w
+module _ (s : Text) (c : Cursor) (T : Tables) (k : Kind) (f : Text) (e : ℕ) (out : Result Tally Fault) (w : List ℕ) (o : StepOutcome s (step_from T (record_with k f)) out w) where
+  pub named_wrong : (g : Fault) → out ≡ Err g → LineOutcome s c (line_with T (some (record_with k f)) (lines_of (drop (e + 1) s))) (Err g) w
   named_wrong g p =
       record {
-        answer = rw (q, ← o.answer, p);
+        answer = rw (← o.answer, p);
         fits = tt;
       }
 
-  module _ (u : Tally) (p : out ≡ Next u) (l : LineEnd s c e) (b : Bool) (i : b ≡ is_end_kind k) (d : Cursor) (z : d ≡ record { at = e + 1; line = c.line + 1 }) where
+  module _ (u : Tally) (p : out ≡ Ok u) (l : LineEnd s c e) (b : Bool) (i : b ≡ is_end_kind k) (d : Cursor) (z : d ≡ record { at = e + 1; line = c.line + 1 }) where
     gone : Gone s c u d w
     gone =
         record {
-          fits = subst (λ (x : Stepped). StepFits s x w) p o.fits;
+          fits = subst (λ (x : Result Tally Fault). StepFits s x w) p o.fits;
           on = rw z (omega (arith, l.from));
           within = rw z (omega (arith, l.here));
           counted = rw z;
         }
 
-    pub named_ended : b ≡ true → LineOutcome s c (line_with T (record_named n f) (lines_of (drop (e + 1) s))) (Ended u d) w
+    pub named_ended : b ≡ true → LineOutcome s c (line_with T (some (record_with k f)) (lines_of (drop (e + 1) s))) (Ok (Ended u d)) w
     named_ended t =
         record {
-          answer = rw (q, ← o.answer, p, ← i, t, z);
+          answer = rw (← o.answer, p, ← i, t, z);
           fits = gone;
         }
 
-    pub named_moved : b ≡ false → LineOutcome s c (line_with T (record_named n f) (lines_of (drop (e + 1) s))) (Moved u d) w
+    pub named_moved : b ≡ false → LineOutcome s c (line_with T (some (record_with k f)) (lines_of (drop (e + 1) s))) (Ok (Moved u d)) w
     named_moved t =
         record {
-          answer = rw (q, ← o.answer, p, ← i, t, z);
+          answer = rw (← o.answer, p, ← i, t, z);
           fits = gone;
         }
 
 -- ---- the line at the cursor
-pub line_bad : (s : Text) (c : Cursor) (due : Lining) (f : Fault) (w : List ℕ) → due ≡ bad f → LineOutcome s c due (Bad f) w
+pub line_bad : (s : Text) (c : Cursor) (due : Lining) (f : Fault) (w : List ℕ) → due ≡ bad f → LineOutcome s c due (Err f) w
 line_bad s c due f w e = record { answer = sym e; fits = tt }
 
-pub line_by : (s : Text) (c : Cursor) (due got : Lining) (r : Lined) (w : List ℕ) → due ≡ got → LineOutcome s c got r w → LineOutcome s c due r w
+pub line_by : (s : Text) (c : Cursor) (due got : Lining) (r : Result Lined Fault) (w : List ℕ) → due ≡ got → LineOutcome s c got r w → LineOutcome s c due r w
 line_by s c due got r w e o = record { answer = o.answer ∙ sym e; fits = o.fits }
 
 -- ---- all lines
@@ -125,7 +116,7 @@ closed_fits : (s : Text) (t : Tally) (d : Cursor) (w : List ℕ) → Fits s t w 
 unfolding closed_at
 closed_fits s t d w f = go (ltb d.at (length s))
   where
-    go : (b : Bool) → FillFits s (cond b (Not NoEnd d.line) (Whole t)) w
+    go : (b : Bool) → FillFits s (cond b (Err (record { fault = NoEnd; line = d.line })) (Ok t)) w
     go true = tt
     go false = f
 
@@ -134,41 +125,43 @@ pub record Walking (s : Text) (at : ℕ) (w₀ : List ℕ) (w : List ℕ) (t : T
   pub due : fill_from start_tables 2 (lines_of (drop at s)) ≡ fill_from (tables_at s t w) c.line (lines_of (drop c.at s))
   pub fits : Fits s t w
   pub within : c.at ≤ length s
-  pub few : c.line ≤ c.at + 1
+  pub few : c.line ≤ c.at + 2
   pub same : length w ≡ length w₀
 
-pub walk_starts : (s w : List ℕ) (at : ℕ) (t : Tally) → t ≡ start_tally → length s ≤ 24576 → 1 ≤ at → Ready s at w → Walking s at w w t (record { at = at; line = 2 })
+pub walk_starts : (s w : List ℕ) (at : ℕ) (t : Tally) → t ≡ start_tally → Ready s at w → Walking s at w w t (record { at = at; line = 2 })
 unfolding tables_at region texts_at spans_at
-walk_starts s w at t e h k r =
+walk_starts s w at t e r =
     rw e (record {
       due = refl;
-      fits = record { short = h; room = r.room; declared = omega arith; roles = omega arith; methods = omega arith; patterns = omega arith; lines = omega arith; collections = omega arith; constraints = omega arith };
+      fits = record { short = r.short; room = r.room; declared = omega arith; roles = omega arith; methods = omega arith; patterns = omega arith; lines = omega arith; collections = omega arith; constraints = omega arith };
       within = r.within;
       few = omega arith;
       same = refl;
     })
 
-module _ (s : List ℕ) (at : ℕ) (w₀ w : List ℕ) (t : Tally) (c : Cursor) (v : Walking s at w₀ w t c) (out : Lined) (w' : List ℕ) (o : LineOutcome s c (line_from (tables_at s t w) (lines_of (drop c.at s))) out w') where
+module _ (s : List ℕ) (at : ℕ) (w₀ w : List ℕ) (t : Tally) (c : Cursor) (v : Walking s at w₀ w t c) (out : Result Lined Fault) (w' : List ℕ) (o : LineOutcome s c (line_from (tables_at s t w) (lines_of (drop c.at s))) out w') where
   line_comes : fill_from start_tables 2 (lines_of (drop at s)) ≡ fill_lining c.line (line_shown s out w')
   line_comes = v.due ∙ by_line (tables_at s t w) c.line (lines_of (drop c.at s)) ∙ sym (ap (fill_lining c.line) o.answer)
 
-  pub walk_bad : (f : Fault) → out ≡ Bad f → FillOutcome s (fill_from start_tables 2 (lines_of (drop at s))) (Not f c.line) w'
+  pub walk_bad : (f : Fault) → out ≡ Err f → FillOutcome s (fill_from start_tables 2 (lines_of (drop at s))) (Err (record { fault = f; line = c.line })) w'
   unfolding fill_lining
   walk_bad f e = record { answer = sym (line_comes ∙ rw e); fits = tt }
 
-  pub walk_closed : (u : Tally) (d : Cursor) (r : Loaded) → out ≡ Ended u d → r ≡ closed_at s u d → FillOutcome s (fill_from start_tables 2 (lines_of (drop at s))) r w'
+  pub walk_closed : (l : Lined) (u : Tally) (d : Cursor) (r : Result Tally Refusal) → out ≡ Ok l → l ≡ Ended u d → r ≡ closed_at s u d → FillOutcome s (fill_from start_tables 2 (lines_of (drop at s))) r w'
   unfolding fill_lining
-  walk_closed u d r e q =
-      let g : Gone s c u d w' = subst (λ (x : Lined). LineFits s c x w') e o.fits in
+  walk_closed l u d r x y q =
+      let e : out ≡ Ok (Ended u d) = x ∙ ap Ok y in
+      let g : Gone s c u d w' = subst (λ (x : Result Lined Fault). LineFits s c x w') e o.fits in
       let n : c.line + 1 ≡ d.line = sym g.counted in
       let m : suc c.line ≡ d.line = omega arith in
       let k : fill_from start_tables 2 (lines_of (drop at s)) ≡ closing (tables_at s u w') d.line (lines_of (drop d.at s)) = line_comes ∙ rw (e, m) in
       rw q (record { answer = closed_shown s u d w' ∙ sym k; fits = closed_fits s u d w' g.fits })
 
-  pub walk_on : (u : Tally) (d : Cursor) → out ≡ Moved u d → length w' ≡ length w → Walking s at w₀ w' u d
+  pub walk_on : (l : Lined) (u : Tally) (d : Cursor) → out ≡ Ok l → l ≡ Moved u d → length w' ≡ length w → Walking s at w₀ w' u d
   unfolding fill_lining
-  walk_on u d e l =
-      let g : Gone s c u d w' = subst (λ (x : Lined). LineFits s c x w') e o.fits in
+  walk_on i u d x y l =
+      let e : out ≡ Ok (Moved u d) = x ∙ ap Ok y in
+      let g : Gone s c u d w' = subst (λ (x : Result Lined Fault). LineFits s c x w') e o.fits in
       let n : c.line + 1 ≡ d.line = sym g.counted in
       let m : suc c.line ≡ d.line = omega arith in
       record {
@@ -179,12 +172,13 @@ module _ (s : List ℕ) (at : ℕ) (w₀ w : List ℕ) (t : Tally) (c : Cursor) 
         same = l ∙ v.same;
       }
 
-  pub walk_falls : (u : Tally) (d : Cursor) → out ≡ Moved u d → length s - d.at < length s - c.at
-  walk_falls u d e =
-      let g : Gone s c u d w' = subst (λ (x : Lined). LineFits s c x w') e o.fits in
+  pub walk_falls : (l : Lined) (u : Tally) (d : Cursor) → out ≡ Ok l → l ≡ Moved u d → length s - d.at < length s - c.at
+  walk_falls l u d x y =
+      let e : out ≡ Ok (Moved u d) = x ∙ ap Ok y in
+      let g : Gone s c u d w' = subst (λ (x : Result Lined Fault). LineFits s c x w') e o.fits in
       omega (arith, g.on, g.within)
 
 -- the text runs out
-pub walk_ends : (s : List ℕ) (at : ℕ) (w₀ w : List ℕ) (t : Tally) (c : Cursor) → Walking s at w₀ w t c → length s ≤ c.at → FillOutcome s (fill_from start_tables 2 (lines_of (drop at s))) (Not NoEnd c.line) w
+pub walk_ends : (s : List ℕ) (at : ℕ) (w₀ w : List ℕ) (t : Tally) (c : Cursor) → Walking s at w₀ w t c → length s ≤ c.at → FillOutcome s (fill_from start_tables 2 (lines_of (drop at s))) (Err (record { fault = NoEnd; line = c.line })) w
 unfolding fill_from lines_of
 walk_ends s at w₀ w t c v h = record { answer = sym (v.due ∙ rw (drop_of_length-le s h)); fits = tt }

@@ -1,5 +1,5 @@
 -- Reading as it goes over the work table, line by line. `proofs/` shows that this is the reading of Refusals.
-use Rattle.std.specs.Prelude.{ℕ, suc, ◌+◌, ◌≤◌, ◌<◌, ◌≡◌, Bool, true, false, cond, List, [], ◌∷◌, length, drop, ltb}
+use Rattle.std.specs.Prelude.{ℕ, suc, ◌+◌, ◌≤◌, ◌<◌, ◌≡◌, Bool, true, false, cond, List, [], ◌∷◌, length, drop, ltb, Result, Ok, Err}
 use Rattle.std.proofs.Math.Option.{Option, none, some}
 use Rattle.text.specs.Texts.{Text}
 use Rattle.text.specs.Lines.{Line, lines_of}
@@ -12,9 +12,8 @@ use Rattle.listings.specs.Refusals.{Reading, accepted, refusal}
 use Rattle.entries.specs.declared.tables.Tally.{Tally}
 use Rattle.reading.specs.declared.reader.Cursor.{Cursor}
 use Rattle.reading.specs.declared.reader.Lined.{Lined}
-use Rattle.reading.specs.declared.reader.Lined.TheVariants.{Moved, Ended, Bad}
-use Rattle.reading.specs.declared.reader.Loaded.{Loaded}
-use Rattle.reading.specs.declared.reader.Loaded.TheVariants.{Whole, Not}
+use Rattle.reading.specs.declared.reader.Lined.TheVariants.{Moved, Ended}
+use Rattle.reading.specs.declared.reader.Refusal.{Refusal}
 use Rattle.entries.specs.Tables.{Tables, Stepping, step_from, tables_at, Fits, next, wrong}
 
 -- what a line comes to: a fault, or the tables after it and the lines behind it, `end` told apart
@@ -64,10 +63,10 @@ answer_of (filled T) = accepted
 answer_of (unfilled f n) = refusal f n
 
 -- ---- the program's answers in those terms
-abbrev pub line_shown : Text → Lined → List ℕ → Lining
-line_shown s (Moved t c) w = moved (tables_at s t w) (lines_of (drop c.at s))
-line_shown s (Ended t c) w = ended (tables_at s t w) (lines_of (drop c.at s))
-line_shown s (Bad f) w = bad f
+abbrev pub line_shown : Text → Result Lined Fault → List ℕ → Lining
+line_shown s (Ok (Moved t c)) w = moved (tables_at s t w) (lines_of (drop c.at s))
+line_shown s (Ok (Ended t c)) w = ended (tables_at s t w) (lines_of (drop c.at s))
+line_shown s (Err f) w = bad f
 
 -- counts that fit, and a cursor that has gone on by one line
 pub record Gone (s : Text) (c : Cursor) (t : Tally) (d : Cursor) (w : List ℕ) : Type 0 where
@@ -76,12 +75,12 @@ pub record Gone (s : Text) (c : Cursor) (t : Tally) (d : Cursor) (w : List ℕ) 
   pub within : d.at ≤ length s
   pub counted : d.line ≡ c.line + 1
 
-abbrev pub LineFits : Text → Cursor → Lined → List ℕ → Type 0
-LineFits s c (Moved t d) w = Gone s c t d w
-LineFits s c (Ended t d) w = Gone s c t d w
-LineFits s c (Bad f) w = Unit {0}
+abbrev pub LineFits : Text → Cursor → Result Lined Fault → List ℕ → Type 0
+LineFits s c (Ok (Moved t d)) w = Gone s c t d w
+LineFits s c (Ok (Ended t d)) w = Gone s c t d w
+LineFits s c (Err f) w = Unit {0}
 
-pub record LineOutcome (s : Text) (c : Cursor) (due : Lining) (out : Lined) (w : List ℕ) : Type 0 where
+pub record LineOutcome (s : Text) (c : Cursor) (due : Lining) (out : Result Lined Fault) (w : List ℕ) : Type 0 where
   pub answer : line_shown s out w ≡ due
   pub fits : LineFits s c out w
 
@@ -92,17 +91,17 @@ pub record LineEnd (s : Text) (c : Cursor) (e : ℕ) : Type 0 where
   pub few : c.line ≤ 100000
 
 -- what stands behind the `end` line
-unfoldable pub closed_at : Text → Tally → Cursor → Loaded
-closed_at s t c = cond (ltb c.at (length s)) (Not NoEnd c.line) (Whole t)
+unfoldable pub closed_at : Text → Tally → Cursor → Result Tally Refusal
+closed_at s t c = cond (ltb c.at (length s)) (Err (record { fault = NoEnd; line = c.line })) (Ok t)
 
-abbrev pub fill_shown : Text → Loaded → List ℕ → Filling
-fill_shown s (Whole t) w = filled (tables_at s t w)
-fill_shown s (Not f n) w = unfilled f n
+abbrev pub fill_shown : Text → Result Tally Refusal → List ℕ → Filling
+fill_shown s (Ok t) w = filled (tables_at s t w)
+fill_shown s (Err r) w = unfilled r.fault r.line
 
-abbrev pub FillFits : Text → Loaded → List ℕ → Type 0
-FillFits s (Whole t) w = Fits s t w
-FillFits s (Not f n) w = Unit {0}
+abbrev pub FillFits : Text → Result Tally Refusal → List ℕ → Type 0
+FillFits s (Ok t) w = Fits s t w
+FillFits s (Err r) w = Unit {0}
 
-pub record FillOutcome (s : Text) (due : Filling) (out : Loaded) (w : List ℕ) : Type 0 where
+pub record FillOutcome (s : Text) (due : Filling) (out : Result Tally Refusal) (w : List ℕ) : Type 0 where
   pub answer : fill_shown s out w ≡ due
   pub fits : FillFits s out w

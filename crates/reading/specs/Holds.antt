@@ -1,14 +1,13 @@
 -- What the crates above know of a work table: that it holds a view. They lean on `held`'s contracts and on `ProperView`, and never look at the numbers. Nothing here says where the numbers come from: `load`
 -- leaves the view of the listing that the text is, and a table that holds another, as that of a listing less some constraints, is served by the same functions.
-use Rattle.std.specs.Prelude.{ℕ, ◌+◌, ◌≤◌, ◌<◌, ◌≡◌, List, get_or}
+use Rattle.std.specs.Prelude.{ℕ, ◌+◌, ◌≤◌, ◌<◌, ◌≡◌, List, get_or, Result, Ok, Err}
 use Rattle.text.specs.Texts.{Text}
 use Rattle.listings.specs.Refusals.{Reading, accepted, refusal, reading_of}
 use Rattle.listings.specs.Listings.{listing_of}
 use Rattle.entries.specs.Tables.{Fits, owners_at, parents_at}
-use Rattle.reading.specs.Views.{ProperView, view_of, view_at}
+use Rattle.reading.specs.Views.{View, ProperView, view_of, view_at}
 use Rattle.entries.specs.declared.tables.Tally.{Tally}
-use Rattle.reading.specs.declared.reader.Loaded.{Loaded}
-use Rattle.reading.specs.declared.reader.Loaded.TheVariants.{Whole, Not}
+use Rattle.reading.specs.declared.reader.Refusal.{Refusal}
 
 -- the number of one of n, counted from 1
 abbrev pub OneOf : ℕ → ℕ → Type 0
@@ -22,9 +21,9 @@ pub record Holds (s : Text) (t : Tally) (w : List ℕ) : Type 0 where
   pub proper : ProperView (view_at s t w)
 
 -- what reading answered
-abbrev pub reading_shown : Loaded → Reading
-reading_shown (Whole t) = accepted
-reading_shown (Not f n) = refusal f n
+abbrev pub reading_shown : Result Tally Refusal → Reading
+reading_shown (Ok t) = accepted
+reading_shown (Err r) = refusal r.fault r.line
 
 -- a whole listing: it is accepted, and the table holds its view
 pub record HoldsListing (s : Text) (t : Tally) (w : List ℕ) : Type 0 where
@@ -32,10 +31,16 @@ pub record HoldsListing (s : Text) (t : Tally) (w : List ℕ) : Type 0 where
   pub holds : Holds s t w
   pub view : view_at s t w ≡ view_of (listing_of s)
 
-abbrev pub LoadHolds : Text → Loaded → List ℕ → Type 0
-LoadHolds s (Whole t) w = HoldsListing s t w
-LoadHolds s (Not f n) w = Unit {0}
+-- v is the view of an accepted listing, as a value
+pub record ListingHeld (s : Text) (v : View) : Type 0 where
+  pub accepts : reading_of s ≡ accepted
+  pub proper : ProperView v
+  pub view : v ≡ view_of (listing_of s)
 
-pub record LoadOutcome (s : Text) (out : Loaded) (w : List ℕ) : Type 0 where
+abbrev pub LoadHolds : Text → Result Tally Refusal → List ℕ → Type 0
+LoadHolds s (Ok t) w = HoldsListing s t w
+LoadHolds s (Err r) w = Unit {0}
+
+pub record LoadOutcome (s : Text) (out : Result Tally Refusal) (w : List ℕ) : Type 0 where
   pub answer : reading_shown out ≡ reading_of s
   pub holds : LoadHolds s out w

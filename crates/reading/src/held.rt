@@ -1,11 +1,12 @@
-// What the crates above ask of what the work table holds. Their contracts speak of the view that it holds: how it does is this crate's own affair.
+// What the crates above ask of what the work table holds. To them it is a view, a value of specs/Views: how it stands in the table is this crate's own affair.
 ghost use Rattle.std.specs.Prelude.{◌≡◌, ◌<◌, [], length, get_or};
 ghost use Rattle.text.specs.Texts.{index_of};
 ghost use Rattle.reading.specs.Holds.{Holds};
-ghost use Rattle.reading.specs.Views.{texts, cover_at, access_at, view_at};
+ghost use Rattle.reading.specs.Views.{texts, cover_at, access_at, view_at, ProperView};
 
 use entries::tables;
 use entries::tables::Tally;
+use std::marker::Model;
 
 // What a constraint says: nothing is asked, nobody may, or the roles that may, as the digits of a number.
 #[derive(Clone, Copy)]
@@ -15,94 +16,125 @@ pub enum Access {
     ByRole(u64),
 }
 
-// How many `pattern` lines there are.
-pub fn pattern_count(s: &[u8], w: &[u32], t: Tally) -> usize
-    requires { Holds s.now t w.now }
-    ensures { result ≡ length (texts (view_at s.now t w.now)) }
-{
-    t.patterns
+// A view, as the work table holds it: the lent text, the numbers that stand for it, and how much of each list is filled. In a clause it is the view alone.
+#[derive(Drop)]
+pub struct View<'a> {
+    text: &'a [u8],
+    table: &'a [u32],
+    tally: Tally,
 }
 
-// The text of `pattern` line k.
-pub fn pattern<'a, 'b>(s: &'a [u8], w: &'b [u32], t: Tally, k: usize) -> &'a [u8]
-    requires { Holds s.now t w.now × (k < length (texts (view_at s.now t w.now))) }
-    ensures { result.now ≡ get_or (texts (view_at s.now t w.now)) k [] }
-{
-    tables::span_at(s, w[tables::PATTERNS + k])
+impl<'a> Model for View<'a> {
+    ghost use Rattle.reading.specs.Views.{View, view_at};
+    ghost use Rattle.reading.specs.Holds.{Holds};
+
+    ghost Value = { View };
+
+    ghost view = { λ v. view_at v.text.now v.tally v.table.now };
+
+    ghost invariant = { λ v. Holds v.text.now v.tally v.table.now };
 }
 
-// The methods that the collection of `pattern` line k covers, as the digits of a number.
-pub fn cover(s: &[u8], w: &[u32], t: Tally, k: usize) -> u32
-    requires { Holds s.now t w.now × (k < length (texts (view_at s.now t w.now))) }
-    ensures { result ≡ cover_at (view_at s.now t w.now) k }
-{
-    let c = tables::wide(w[tables::OWNERS + k]);
-    w[tables::COVERS + c]
-}
-
-// What the constraint of `pattern` line k says.
-pub fn access_of(s: &[u8], w: &[u32], t: Tally, k: usize) -> Access
-    requires { Holds s.now t w.now × (k < length (texts (view_at s.now t w.now))) }
-    ensures { result ≡ access_at (view_at s.now t w.now) k }
-{
-    let c = tables::wide(w[tables::PARENTS + k]);
-    let number = w[tables::ACCESSES + c];
-    if number == 0 {
-        return Access::Open;
+impl<'a> View<'a> {
+    // The view that a table holds.
+    pub fn new(text: &'a [u8], table: &'a [u32], tally: Tally) -> View<'a>
+        requires { Holds text.now tally table.now }
+        ensures { result ≡ view_at text.now tally table.now }
+    {
+        View { text, table, tally }
     }
-    if number == 1 {
-        return Access::Closed;
+
+    // How many `pattern` lines there are.
+    pub fn pattern_count(&self) -> usize
+        ensures count { result ≡ length (texts self.now) }
+        ensures proper { ProperView self.now }
+    {
+        self.tally.patterns
     }
-    let roles = tables::wide_set(w[tables::ALLOWS + c]);
-    Access::ByRole(roles)
-}
 
-// How many roles there are.
-pub fn role_count(s: &[u8], w: &[u32], t: Tally) -> usize
-    requires { Holds s.now t w.now }
-    ensures { result ≡ length (view_at s.now t w.now).roles }
-{
-    t.roles
-}
+    // The text of `pattern` line k.
+    pub fn pattern(&self, k: usize) -> &'a [u8]
+        requires { k < length (texts self.now) }
+        ensures { result.now ≡ get_or (texts self.now) k [] }
+    {
+        tables::span_at(self.text, self.table[tables::PATTERNS + k])
+    }
 
-// Role i, by first appearance.
-pub fn role<'a, 'b>(s: &'a [u8], w: &'b [u32], t: Tally, i: usize) -> &'a [u8]
-    requires { Holds s.now t w.now × (i < length (view_at s.now t w.now).roles) }
-    ensures { result.now ≡ get_or (view_at s.now t w.now).roles i [] }
-{
-    tables::text_at(s, w[tables::ROLES + i])
-}
+    // The methods that the collection of `pattern` line k covers, as the digits of a number.
+    pub fn cover(&self, k: usize) -> u32
+        requires { k < length (texts self.now) }
+        ensures { result ≡ cover_at self.now k }
+    {
+        let table = self.table;
+        let c = table[tables::OWNERS + k] as usize;
+        table[tables::COVERS + c]
+    }
 
-// The index of a name among the roles, or their number where it is none of them.
-pub fn role_index(s: &[u8], w: &[u32], t: Tally, name: &[u8]) -> usize
-    requires { Holds s.now t w.now }
-    ensures { result ≡ index_of name.now (view_at s.now t w.now).roles }
-{
-    let n = t.roles;
-    tables::index(s, w, tables::ROLES, n, name)
-}
+    // What the constraint of `pattern` line k says.
+    pub fn access(&self, k: usize) -> Access
+        requires { k < length (texts self.now) }
+        ensures { result ≡ access_at self.now k }
+    {
+        let table = self.table;
+        let c = table[tables::PARENTS + k] as usize;
+        match table[tables::ACCESSES + c] {
+            0 => Access::Open,
+            1 => Access::Closed,
+            _ => Access::ByRole(table[tables::ALLOWS + c] as u64),
+        }
+    }
 
-// How many methods there are.
-pub fn method_count(s: &[u8], w: &[u32], t: Tally) -> usize
-    requires { Holds s.now t w.now }
-    ensures { result ≡ length (view_at s.now t w.now).methods }
-{
-    t.methods
-}
+    // How many roles there are.
+    pub fn role_count(&self) -> usize
+        ensures count { result ≡ length self.now.roles }
+        ensures proper { ProperView self.now }
+    {
+        self.tally.roles
+    }
 
-// Method i, by first appearance.
-pub fn method<'a, 'b>(s: &'a [u8], w: &'b [u32], t: Tally, i: usize) -> &'a [u8]
-    requires { Holds s.now t w.now × (i < length (view_at s.now t w.now).methods) }
-    ensures { result.now ≡ get_or (view_at s.now t w.now).methods i [] }
-{
-    tables::text_at(s, w[tables::METHODS + i])
-}
+    // Role i, by first appearance.
+    pub fn role(&self, i: usize) -> &'a [u8]
+        requires { i < length self.now.roles }
+        ensures { result.now ≡ get_or self.now.roles i [] }
+    {
+        tables::text_at(self.text, self.table[tables::ROLES + i])
+    }
 
-// The index of a method among them, or their number where it is none of them.
-pub fn method_index(s: &[u8], w: &[u32], t: Tally, name: &[u8]) -> usize
-    requires { Holds s.now t w.now }
-    ensures { result ≡ index_of name.now (view_at s.now t w.now).methods }
-{
-    let n = t.methods;
-    tables::index(s, w, tables::METHODS, n, name)
+    // The index of a name among the roles, or their number where it is none of them.
+    pub fn role_index(&self, name: &[u8]) -> usize
+        ensures index { result ≡ index_of name.now self.now.roles }
+        ensures proper { ProperView self.now }
+    {
+        tables::index(self.text, self.table, tables::ROLES, self.tally.roles, name)
+    }
+
+    // How many methods there are.
+    pub fn method_count(&self) -> usize
+        ensures count { result ≡ length self.now.methods }
+        ensures proper { ProperView self.now }
+    {
+        self.tally.methods
+    }
+
+    // Method i, by first appearance.
+    pub fn method(&self, i: usize) -> &'a [u8]
+        requires { i < length self.now.methods }
+        ensures { result.now ≡ get_or self.now.methods i [] }
+    {
+        tables::text_at(self.text, self.table[tables::METHODS + i])
+    }
+
+    // The index of a method among them, or their number where it is none of them.
+    pub fn method_index(&self, name: &[u8]) -> usize
+        ensures index { result ≡ index_of name.now self.now.methods }
+        ensures proper { ProperView self.now }
+    {
+        tables::index(
+            self.text,
+            self.table,
+            tables::METHODS,
+            self.tally.methods,
+            name,
+        )
+    }
 }

@@ -37,13 +37,6 @@ pair_at w i h =
     get_or-take (1152 - 1024) (drop 1024 (part 2048 4096 w)) i 0 q ∙ get_or-drop 1024 (part 2048 4096 w) i 0
     ∙ get_or-take (4096 - 2048) (drop 2048 w) (1024 + i) 0 p ∙ get_or-drop 2048 w (1024 + i) 0 ∙ ap (λ (k : ℕ). get_or w k 0) e
 
--- there are 63 of them at most, and their numbers are in the table
-pub first_read : (old new : Text) (w : List ℕ) (pair : Pair) → Telling old new w pair → (m : ℕ) → m < length (methods_of_both old new w pair) → 3072 + m < length w
-first_read old new w pair T m h = omega (arith, T.methods.few, T.long)
-
-pub second_read : (old new : Text) (w : List ℕ) (pair : Pair) → Telling old new w pair → (m : ℕ) → m < length (methods_of_both old new w pair) → 3136 + m < length w
-second_read old new w pair T m h = omega (arith, T.methods.few, T.long)
-
 module _ (old new : Text) (w : List ℕ) (pair : Pair) (T : Telling old new w pair) (m : ℕ) (within : m < length (methods_of_both old new w pair)) where
   abbrev news : List Text
   news = new_methods new w pair
@@ -113,6 +106,3 @@ method_short s t w i k name H all h e =
     let n : Text = get_or (view_at s t w).methods i [] in
     let l = made_short is_token 1 24 n (H.proper.good_methods n (member_at (view_at s t w).methods i (rw all at h))) in
     rw e (omega arith)
-
-pub method_there : (i k : ℕ) (ms : List Text) → k ≡ length ms → i < k → i < length ms
-method_there i k ms e h = omega arith

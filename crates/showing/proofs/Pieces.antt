@@ -10,6 +10,7 @@ use native.Mathlib.Omega.{arith}
 use native.Mathlib.Decide.{dec_lt}
 use lib.ListN.{length, get_or, drop, length-append}
 use lib.Seq.{sets}
+use Rattle.std.specs.Prelude.{Option, Some, None}
 use Rattle.text.specs.Texts.{Text, bytes, slash, dot, part}
 use Rattle.text.specs.Bytes.{is_text, is_token}
 use Rattle.text.proofs.Spans.{from_on}
@@ -31,7 +32,7 @@ use Rattle.grants.specs.Scratch.{stem_path}
 use Rattle.walks.specs.Walks.{kind_at, ending, hit_path}
 use Rattle.walks.proofs.Hits.{kind_line, kind_behind, ending_some}
 use Rattle.showing.specs.Shown.{lines_of_both, methods_of_both, filler_at, Telling, EndingIn, FoundIn, found_request, found_head, found_tail}
-use Rattle.showing.specs.declared.hits.Found.{Found}
+use Rattle.walks.specs.declared.walking.Hit.{Hit}
 use Rattle.showing.proofs.StemPaths.{tail_short}
 use Rattle.firsts.specs.declared.pairs.Pair.{Pair}
 use Rattle.numbers.specs.Writes.{Both, old_view, new_view, old_texts, new_texts}
@@ -74,54 +75,41 @@ module _ (ts : List Text) (n j k : ℕ) (total : k ≡ length ts) where
     last_bytes out d at p = p ∙ ap (λ (x : PatternKind). sets out at (stem_path (filler_at n) x)) (sym (kind_behind ts j (omega arith)))
 
 -- ---- the extension behind it
-module _ (ts : List Text) (e : ℕ) where
-  pub no_ending_offset : e ≡ 0 → (at : ℕ) → at ≡ at + length (ending ts e)
-  no_ending_offset z at = rw z (omega arith)
+-- there is none
+module _ (ts : List Text) (e : Option ℕ) (none : e ≡ None) where
+  pub no_ending_offset : (at : ℕ) → at ≡ at + length (ending ts e)
+  no_ending_offset at = rw none (omega arith)
 
-  pub no_ending_bytes : e ≡ 0 → (out : Text) (at : ℕ) → out ≡ sets out at (ending ts e)
-  no_ending_bytes z out at = rw z
+  pub no_ending_bytes : (out : Text) (at : ℕ) → out ≡ sets out at (ending ts e)
+  no_ending_bytes out at = rw none
 
-  module _ (some : e ≡ 0 → ⊥) (E : EndingIn ts e) where
-    pub ending_there : e - 1 < length ts
-    ending_there = go e some E
-      where
-        go : (e : ℕ) → (e ≡ 0 → ⊥) → EndingIn ts e → e - 1 < length ts
-        go zero z E = absurd (z refl)
-        go (suc i) z E = let h = E.0 in omega arith
+-- that of line i
+module _ (ts : List Text) (e : Option ℕ) (i : ℕ) (one : e ≡ Some i) (E : EndingIn ts e) where
+  here : EndingIn ts (Some i)
+  here = rw one at E
 
-    module _ (t : Text) (is : t ≡ get_or ts (e - 1) []) where
-      -- `.` and the extension are its text behind the first byte
-      ending_is : part 1 (length t) t ≡ ending ts e
-      ending_is = go e some E is
-        where
-          go : (e : ℕ) → (e ≡ 0 → ⊥) → EndingIn ts e → t ≡ get_or ts (e - 1) [] → part 1 (length t) t ≡ ending ts e
-          go zero z E is = absurd (z refl)
-          go (suc i) z E is =
-              let q : suc i - 1 ≡ i = omega arith in
-              let is' : t ≡ get_or ts i [] = rw q at is in
-              let s : Shape t (extension E.1) = rw (ap kind_of is' ∙ E.2) at (shape t) in
-              let u : suc i ≡ i + 1 = omega arith in
-              from_on 1 t ∙ ap (drop 1) s.0 ∙ sym (ending_some ts i E.1 E.0 E.2) ∙ ap (ending ts) (sym u)
+  pub ending_there : i < length ts
+  ending_there = here.0
 
-      pub ending_long : 1 ≤ length t
-      ending_long = go e some E is
-        where
-          go : (e : ℕ) → (e ≡ 0 → ⊥) → EndingIn ts e → t ≡ get_or ts (e - 1) [] → 1 ≤ length t
-          go zero z E is = absurd (z refl)
-          go (suc i) z E is =
-              let q : suc i - 1 ≡ i = omega arith in
-              let is' : t ≡ get_or ts i [] = rw q at is in
-              let s : Shape t (extension E.1) = rw (ap kind_of is' ∙ E.2) at (shape t) in
-              let l = ap length s.0 in omega arith
+  module _ (t : Text) (is : t ≡ get_or ts i []) where
+    ending_shape : Shape t (extension here.1)
+    ending_shape = rw (ap kind_of is ∙ here.2) at (shape t)
 
-      pub ending_offset : (r at : ℕ) → r ≡ at + length (part 1 (length t) t) → r ≡ at + length (ending ts e)
-      ending_offset r at p = p ∙ ap (λ (x : Text). at + length x) ending_is
+    -- `.` and the extension are its text behind the first byte
+    ending_is : part 1 (length t) t ≡ ending ts e
+    ending_is = from_on 1 t ∙ ap (drop 1) ending_shape.0 ∙ sym (ending_some ts i here.1 here.0 here.2) ∙ ap (ending ts) (sym one)
 
-      pub ending_bytes : (out d : Text) (at : ℕ) → d ≡ sets out at (part 1 (length t) t) → d ≡ sets out at (ending ts e)
-      ending_bytes out d at p = p ∙ ap (sets out at) ending_is
+    pub ending_long : 1 ≤ length t
+    ending_long = let l = ap length ending_shape.0 in omega arith
 
-      pub ending_short : is_pattern t ≡ true → length (part 1 (length t) t) ≤ 1000000
-      ending_short h = tail_short t h
+    pub ending_offset : (r at : ℕ) → r ≡ at + length (part 1 (length t) t) → r ≡ at + length (ending ts e)
+    ending_offset r at p = p ∙ ap (λ (x : Text). at + length x) ending_is
+
+    pub ending_bytes : (out d : Text) (at : ℕ) → d ≡ sets out at (part 1 (length t) t) → d ≡ sets out at (ending ts e)
+    ending_bytes out d at p = p ∙ ap (sets out at) ending_is
+
+    pub ending_short : is_pattern t ≡ true → length (part 1 (length t) t) ≤ 1000000
+    ending_short h = tail_short t h
 
 -- ---- the path
 -- a stem's path is short
@@ -144,17 +132,16 @@ stem_short n ts j short = go (dec_lt j (length ts))
     go (no h) = let k : length ts ≤ j = omega arith in rw (kind_behind ts j k) (omega (arith, filled))
 
 -- so is what stands behind it
-ending_most : (ts : List Text) (e : ℕ) → ((t : Text) → Memᴰ t ts → length t ≤ 255) → EndingIn ts e → length (ending ts e) ≤ 255
-ending_most ts zero short E = omega arith
-ending_most ts (suc i) short E =
+ending_most : (ts : List Text) (e : Option ℕ) → ((t : Text) → Memᴰ t ts → length t ≤ 255) → EndingIn ts e → length (ending ts e) ≤ 255
+ending_most ts None short E = omega arith
+ending_most ts (Some i) short E =
     let s : Shape (get_or ts i []) (extension E.1) = rw E.2 at (shape (get_or ts i [])) in
     let l = short (get_or ts i []) (at_listed ts i E.0) in
     let z = ap length s.0 in
-    let u : i + 1 ≡ suc i = omega arith in
-    let v : length (ending ts (suc i)) ≡ length (dot ∷ E.1) = ap (λ (k : ℕ). length (ending ts k)) (sym u) ∙ ap length (ending_some ts i E.1 E.0 E.2) in
+    let v = ap length (ending_some ts i E.1 E.0 E.2) in
     omega arith
 
-module _ (old new : Text) (w : List ℕ) (pair : Pair) (T : Telling old new w pair) (f : Found) (F : FoundIn (old_view old w pair) (new_view new w pair) f) (n : ℕ) where
+module _ (old new : Text) (w : List ℕ) (pair : Pair) (T : Telling old new w pair) (f : Hit) (F : FoundIn (old_view old w pair) (new_view new w pair) f) (n : ℕ) where
   abbrev lines : List Text
   lines = lines_of_both old new w pair
 
@@ -199,19 +186,19 @@ module _ (old new : Text) (w : List ℕ) (pair : Pair) (T : Telling old new w pa
           sets_then out o₂ o₃ (bytes "verdict\twider\npath\t" ++ path) (bytes "\nmethod\t") 0 b e (sets_then out o₁ o₂ (bytes "verdict\twider\npath\t") path 0 a at₁ p q) s
 
 -- from the method on
-module _ (old new : Text) (w : List ℕ) (pair : Pair) (T : Telling old new w pair) (f : Found) (F : FoundIn (old_view old w pair) (new_view new w pair) f) where
+module _ (old new : Text) (w : List ℕ) (pair : Pair) (T : Telling old new w pair) (f : Hit) (F : FoundIn (old_view old w pair) (new_view new w pair) f) where
   abbrev method : Text
-  method = get_or (methods_of_both old new w pair) f.method []
+  method = get_or (methods_of_both old new w pair) f.caught.method []
 
   abbrev line : Text
-  line = line_of (caller_fields (caller_at (new_view new w pair).roles f.caller))
+  line = line_of (caller_fields (caller_at (new_view new w pair).roles f.caught.caller))
 
   tried_short : length method ≤ 24
   unfolding is_method_name
   tried_short =
       made_short is_token 1 24 method
       (tried_good (old_view old w pair).methods (new_view new w pair).methods T.both.olds.proper.good_methods T.both.news.proper.good_methods method
-      (at_listed (methods_of_both old new w pair) f.method F.method))
+      (at_listed (methods_of_both old new w pair) f.caught.method F.method))
 
   module _ (at a b : ℕ) (in_reach : at ≤ 1000) (at₁ : a ≡ at + length method) where
     pub method_near : a ≤ 1000000
@@ -230,11 +217,11 @@ module _ (old new : Text) (w : List ℕ) (pair : Pair) (T : Telling old new w pa
           sets_then out o₂ o₃ (method ++ bytes "\n") line at b e (sets_then out o₁ o₂ method (bytes "\n") at a at₁ p q) s
 
 -- both together are the answer
-both_parts : (old new : View) (n : ℕ) (f : Found) → found_head old new n f ++ found_tail old new f ≡ answer_of (Opt.some (found_request old new n f))
+both_parts : (old new : View) (n : ℕ) (f : Hit) → found_head old new n f ++ found_tail old new f ≡ answer_of (Opt.some (found_request old new n f))
 unfolding answer_of line_of
 both_parts old new n f = simp append_assoc
 
-module _ (old new : View) (n : ℕ) (f : Found) (a r : ℕ) (at₁ : a ≡ 0 + length (found_head old new n f)) where
+module _ (old new : View) (n : ℕ) (f : Hit) (a r : ℕ) (at₁ : a ≡ 0 + length (found_head old new n f)) where
   pub answer_size_lem : r ≡ a + length (found_tail old new f) → r ≡ length (answer_of (Opt.some (found_request old new n f)))
   answer_size_lem p = rw (← both_parts old new n f) (omega (arith, length-append (found_head old new n f) (found_tail old new f)))
 
@@ -306,15 +293,15 @@ line_short v c P S = go (dec_lt 0 c)
         omega (arith, length-append (bytes "caller\trole\t" ++ name) (bytes "\n"), length-append (bytes "caller\trole\t") name, role_most v c P S some)
     go (no h) = let z = none_offset v.roles c [] 0 12 (omega arith) refl in omega arith
 
-pub wider_short : (old new : Text) (w : List ℕ) (pair : Pair) → Telling old new w pair → (f : Found) → FoundIn (old_view old w pair) (new_view new w pair) f → (n : ℕ)
+pub wider_short : (old new : Text) (w : List ℕ) (pair : Pair) → Telling old new w pair → (f : Hit) → FoundIn (old_view old w pair) (new_view new w pair) f → (n : ℕ)
     → length (answer_of (Opt.some (found_request (old_view old w pair) (new_view new w pair) n f))) ≤ 1024
 wider_short old new w pair T f F n =
     let ov : View = old_view old w pair in
     let nv : View = new_view new w pair in
-    let line : Text = line_of (caller_fields (caller_at nv.roles f.caller)) in
-    let tried : Text = get_or (methods_of_both old new w pair) f.method [] in
+    let line : Text = line_of (caller_fields (caller_at nv.roles f.caught.caller)) in
+    let tried : Text = get_or (methods_of_both old new w pair) f.caught.method [] in
     let h : 27 + length (found_request ov nv n f).path ≡ 0 + length (found_head ov nv n f) = head_offset old new w pair T f F n 19 (19 + length (found_request ov nv n f).path) _ refl refl (omega arith) in
     let t = length-append (tried ++ bytes "\n") line in
     let u = length-append tried (bytes "\n") in
     let z = ap length (both_parts ov nv n f) in
-    omega (arith, path_short old new w pair T f F n, tried_short old new w pair T f F, line_short nv f.caller T.both.news.proper F.caller, length-append (found_head ov nv n f) (found_tail ov nv f))
+    omega (arith, path_short old new w pair T f F n, tried_short old new w pair T f F, line_short nv f.caught.caller T.both.news.proper F.caller, length-append (found_head ov nv n f) (found_tail ov nv f))

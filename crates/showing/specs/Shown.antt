@@ -1,5 +1,5 @@
 -- What is known where a hit is shown, and the request that it stands for. For the proofs alone.
-use Rattle.std.specs.Prelude.{ℕ, zero, suc, ◌≤◌, ◌<◌, ◌≡◌, List, [], ◌++◌, length, get_or}
+use Rattle.std.specs.Prelude.{ℕ, ◌≤◌, ◌<◌, ◌≡◌, List, [], ◌++◌, length, get_or, Option, Some, None}
 use Rattle.text.specs.Texts.{Text, bytes, part}
 use Rattle.names.specs.Patterns.{extension, kind_of}
 use Rattle.reading.specs.Views.{View}
@@ -12,7 +12,7 @@ use Rattle.grants.specs.Scratch.{pairs_in, texts_of}
 use Rattle.walks.specs.Walks.{hit_path}
 use Rattle.numbers.specs.Writes.{BothHeld, old_view, new_view}
 use Rattle.firsts.specs.declared.pairs.Pair.{Pair}
-use Rattle.showing.specs.declared.hits.Found.{Found}
+use Rattle.walks.specs.declared.walking.Hit.{Hit}
 
 -- the trial methods of two views
 abbrev pub tried_of : View → View → List Text
@@ -37,19 +37,19 @@ pub record Telling (old new : Text) (w : List ℕ) (pair : Pair) : Type 0 where
   pub methods : PairsOf (old_view old w pair).methods (new_view new w pair).methods (pairs_in (part 2048 4096 w)) (length (methods_of_both old new w pair))
 
 -- no extension, or that of a line
-abbrev pub EndingIn : List Text → ℕ → Type 0
-EndingIn ts zero = Unit {0}
-EndingIn ts (suc i) = (i < length ts) × (e : Text) × (kind_of (get_or ts i []) ≡ extension e)
+abbrev pub EndingIn : List Text → Option ℕ → Type 0
+EndingIn ts None = Unit {0}
+EndingIn ts (Some i) = (i < length ts) × (e : Text) × (kind_of (get_or ts i []) ≡ extension e)
 
 -- the numbers of a hit are those of a trial of two views
-pub record FoundIn (old new : View) (f : Found) : Type 0 where
+pub record FoundIn (old new : View) (f : Hit) : Type 0 where
   pub ending : EndingIn (texts_of old new) f.ending
-  pub method : f.method < length (tried_of old new)
-  pub caller : Showable new.roles f.caller
+  pub method : f.caught.method < length (tried_of old new)
+  pub caller : Showable new.roles f.caught.caller
 
 -- the request that they stand for, where the filler's number is n
-abbrev pub found_request : View → View → ℕ → Found → Request
-found_request old new n f = request (hit_path (filler_at n) (texts_of old new) f.stem f.ending) (get_or (tried_of old new) f.method []) (caller_at new.roles f.caller)
+abbrev pub found_request : View → View → ℕ → Hit → Request
+found_request old new n f = request (hit_path (filler_at n) (texts_of old new) f.stem f.ending) (get_or (tried_of old new) f.caught.method []) (caller_at new.roles f.caught.caller)
 
 -- what the answer has before the method, and from the method on
 abbrev pub head_text : Text → Text
@@ -59,8 +59,8 @@ abbrev pub tail_text : Text → Text → Text
 tail_text method line = method ++ bytes "\n" ++ line
 
 -- the same of a hit
-abbrev pub found_head : View → View → ℕ → Found → Text
+abbrev pub found_head : View → View → ℕ → Hit → Text
 found_head old new n f = head_text (found_request old new n f).path
 
-abbrev pub found_tail : View → View → Found → Text
-found_tail old new f = tail_text (get_or (tried_of old new) f.method []) (line_of (caller_fields (caller_at new.roles f.caller)))
+abbrev pub found_tail : View → View → Hit → Text
+found_tail old new f = tail_text (get_or (tried_of old new) f.caught.method []) (line_of (caller_fields (caller_at new.roles f.caught.caller)))

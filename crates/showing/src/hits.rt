@@ -12,21 +12,12 @@ ghost use Rattle.numbers.specs.Writes.{BothHeld, old_view, new_view};
 ghost use Rattle.showing.specs.Shown.{lines_of_both, methods_of_both, filler_at, Telling, EndingIn, FoundIn, found_request, found_head, found_tail};
 
 use crate::paths;
-use entries::tables;
 use entries::tables::Tally;
 use fillers::finding;
 use firsts::pairs::Pair;
 use numbers::stems;
 use reading::held;
-
-// The numbers of a hit: its stem; the extension behind it, counted from 1, or 0 where there is none; the trial method; the caller.
-#[derive(Clone, Copy)]
-pub struct Found {
-    pub stem: usize,
-    pub ending: usize,
-    pub method: usize,
-    pub caller: usize,
-}
+use walks::walking::Hit;
 
 // The text of line j of both, those of new before those of old.
 pub fn line_text<'a, 'b>(
@@ -47,9 +38,8 @@ pub fn line_count(old: &[u8], new: &[u8], w: &[u32], pair: Pair) -> usize
     requires { BothHeld old.now new.now w.now pair × (2048 ≤ length w.now) }
     ensures { result ≡ length (lines_of_both old.now new.now w.now pair) }
 {
-    let to = pair.old;
-    let tn = pair.new;
-    held::pattern_count(new, &w[1024..2048], tn) + held::pattern_count(old, &w[0..1024], to)
+    held::pattern_count(new, &w[1024..2048], pair.new)
+        + held::pattern_count(old, &w[0..1024], pair.old)
 }
 
 // The path of stem j, where the filler's number is n; the offset behind it.
@@ -73,13 +63,13 @@ pub fn put_stem<'a, 'b>(
     paths::put_below(out, at, b"", n)
 }
 
-// `.` and the extension of line e, counted from 1; nothing where e is 0.
+// `.` and the extension of line e; nothing where there is none.
 pub fn put_ending<'a, 'b>(
     old: &'a [u8],
     new: &'a [u8],
     w: &'b [u32],
     pair: Pair,
-    e: usize,
+    e: Option<usize>,
     out: &mut [u8],
     at: usize,
 ) -> usize
@@ -87,10 +77,10 @@ pub fn put_ending<'a, 'b>(
     ensures offset { result ≡ at + length (ending (lines_of_both old.now new.now w.now pair) e) }
     ensures bytes { out.new ≡ sets out.old at (ending (lines_of_both old.now new.now w.now pair) e) }
 {
-    if e == 0 {
+    let Some(line) = e else {
         return at;
-    }
-    let text = line_text(old, new, w, pair, e - 1);
+    };
+    let text = line_text(old, new, w, pair, line);
     writing::put(out, at, &text[1..])
 }
 
@@ -110,11 +100,11 @@ pub fn put_method(
 {
     let to = pair.old;
     let tn = pair.new;
-    let i = tables::wide(w[3136 + m]);
+    let i = w[3136 + m] as usize;
     if i < held::method_count(new, &w[1024..2048], tn) {
         return writing::put(out, at, held::method(new, &w[1024..2048], tn, i));
     }
-    let j = tables::wide(w[3072 + m]);
+    let j = w[3072 + m] as usize;
     if j < held::method_count(old, &w[0..1024], to) {
         return writing::put(out, at, held::method(old, &w[0..1024], to, j));
     }
@@ -143,7 +133,7 @@ pub fn put_path<'a, 'b>(
     w: &'b [u32],
     pair: Pair,
     n: usize,
-    f: Found,
+    f: Hit,
     out: &mut [u8],
     at: usize,
 ) -> usize
@@ -151,10 +141,8 @@ pub fn put_path<'a, 'b>(
     ensures offset { result ≡ at + length (hit_path (filler_at n) (lines_of_both old.now new.now w.now pair) f.stem f.ending) }
     ensures bytes { out.new ≡ sets out.old at (hit_path (filler_at n) (lines_of_both old.now new.now w.now pair) f.stem f.ending) }
 {
-    let stem = f.stem;
-    let ending = f.ending;
-    let a = put_stem(old, new, w, pair, n, stem, out, at);
-    put_ending(old, new, w, pair, ending, out, a)
+    let a = put_stem(old, new, w, pair, n, f.stem, out, at);
+    put_ending(old, new, w, pair, f.ending, out, a)
 }
 
 // What the answer that shows a hit has before the method; the offset behind it.
@@ -164,7 +152,7 @@ pub fn put_head<'a, 'b>(
     w: &'b [u32],
     pair: Pair,
     n: usize,
-    f: Found,
+    f: Hit,
     out: &mut [u8],
 ) -> usize
     requires { Telling old.now new.now w.now pair × FoundIn (old_view old.now w.now pair) (new_view new.now w.now pair) f }
@@ -183,7 +171,7 @@ pub fn put_tail(
     new: &[u8],
     w: &[u32],
     pair: Pair,
-    f: Found,
+    f: Hit,
     out: &mut [u8],
     at: usize,
 ) -> usize
@@ -191,12 +179,9 @@ pub fn put_tail(
     ensures offset { result ≡ at + length (found_tail (old_view old.now w.now pair) (new_view new.now w.now pair) f) }
     ensures bytes { out.new ≡ sets out.old at (found_tail (old_view old.now w.now pair) (new_view new.now w.now pair) f) }
 {
-    let tn = pair.new;
-    let method = f.method;
-    let caller = f.caller;
-    let a = put_method(old, new, w, pair, method, out, at);
+    let a = put_method(old, new, w, pair, f.caught.method, out, at);
     let b = writing::put(out, a, b"\n");
-    put_caller(new, &w[1024..2048], tn, caller, out, b)
+    put_caller(new, &w[1024..2048], pair.new, f.caught.caller, out, b)
 }
 
 // The answer that shows a hit; its length.
@@ -206,7 +191,7 @@ pub fn put_wider<'a, 'b>(
     w: &'b [u32],
     pair: Pair,
     n: usize,
-    f: Found,
+    f: Hit,
     out: &mut [u8],
 ) -> usize
     requires { Telling old.now new.now w.now pair × FoundIn (old_view old.now w.now pair) (new_view new.now w.now pair) f }

@@ -13,115 +13,32 @@ pub fn are_same(t: &[u8], u: &[u8]) -> bool
     t == u
 }
 
-// Whether t has the byte b, every byte looked at: such a loop the compiler makes one over 32 bytes at a time.
-pub fn any_is(b: u8, t: &[u8]) -> bool
-    ensures { result ≡ has b t.now }
-{
-    let mut found = false;
-    for x in t {
-        found |= b == *x;
-    }
-    found
-}
-
-// Whether t, of at most 32 bytes, has the byte b: all of it, or its first 8 or 16 bytes and as many at its end, which may be the same.
-pub fn ends_have(b: u8, t: &[u8]) -> bool
-    requires { length t.now ≤ 32 }
-    ensures { result ≡ has b t.now }
-{
-    let n = t.len();
-    if n < 8 {
-        return any_is(b, t);
-    }
-    if n < 16 {
-        let e = n - 8;
-        return any_is(b, &t[0..8]) | any_is(b, &t[e..]);
-    }
-    let e = n - 16;
-    any_is(b, &t[0..16]) | any_is(b, &t[e..])
-}
-
-// Whether t has the byte b. A text of 32 bytes and more is looked at in whole 32s, then its last 32.
-pub fn has_byte(b: u8, t: &[u8]) -> bool
-    ensures { result ≡ has b t.now }
-{
-    let n = t.len();
-    if n < 32 {
-        return ends_have(b, t);
-    }
-    let whole = n - n % 32;
-    let last = n - 32;
-    any_is(b, &t[0..whole]) | any_is(b, &t[last..])
-}
-
-// Whether t and u, of one length, are the same bytes, every byte looked at: as `any_is`, for two texts.
-pub fn all_same(t: &[u8], u: &[u8]) -> bool
-    requires { length t.now ≡ length u.now }
-    ensures { result ≡ same t.now u.now }
-{
-    let mut alike = true;
-    for (x, y) in t.iter().zip(u) {
-        alike &= x == y;
-    }
-    alike
-}
-
-// Whether t and u, of one length and at most 32 bytes, are the same: all of them, or their first 8 or 16 bytes and as many at their ends, which may be the same ones.
-pub fn ends_same(t: &[u8], u: &[u8]) -> bool
-    requires { (length t.now ≡ length u.now) × (length t.now ≤ 32) }
-    ensures { result ≡ same t.now u.now }
-{
-    let n = t.len();
-    if n < 8 {
-        return are_same(t, u);
-    }
-    if n < 16 {
-        let e = n - 8;
-        return all_same(&t[0..8], &u[0..8]) & all_same(&t[e..], &u[e..]);
-    }
-    let e = n - 16;
-    all_same(&t[0..16], &u[0..16]) & all_same(&t[e..], &u[e..])
-}
-
-// Whether t and u are the same bytes, up to 32 looked at at once: for texts that are long, and begin and end alike. Of 32 bytes and more the last 32 are compared, then the whole 32s.
+// The same as `are_same`: goes when no other crate calls it.
 pub fn are_alike(t: &[u8], u: &[u8]) -> bool
     ensures { result ≡ same t.now u.now }
 {
-    let n = t.len();
-    if n != u.len() {
-        return false;
-    }
-    if n < 32 {
-        return ends_same(t, u);
-    }
-    let last = n - 32;
-    if !all_same(&t[last..], &u[last..]) {
-        return false;
-    }
-    let whole = n - n % 32;
-    all_same(&t[0..whole], &u[0..whole])
+    are_same(t, u)
+}
+
+// Whether t has the byte b.
+pub fn has_byte(b: u8, t: &[u8]) -> bool
+    ensures { result ≡ has b t.now }
+{
+    t.contains(&b)
 }
 
 // Whether t starts with the prefix p.
 pub fn starts_with(p: &[u8], t: &[u8]) -> bool
     ensures { result ≡ starts_with p.now t.now }
 {
-    if t.len() < p.len() {
-        return false;
-    }
-    let n = p.len();
-    are_same(p, &t[..n])
+    t.starts_with(p)
 }
 
 // Whether t ends with e.
 pub fn ends_with(e: &[u8], t: &[u8]) -> bool
     ensures { result ≡ ends_with e.now t.now }
 {
-    if t.len() < e.len() {
-        return false;
-    }
-    let from = t.len() - e.len();
-    are_same(&t[from..], e)
+    t.ends_with(e)
 }
 
 // Whether every byte of t is a text byte.
@@ -183,23 +100,14 @@ pub fn scan(s: &[u8], at: usize) -> Scanned
     for i in past_text(s, at)..s.len() {
         let b = s[i];
         if !bytes::is_text(b) {
-            if b == b'\t' {
-                return Scanned {
-                    end: i,
-                    clean,
-                };
-            }
-            if b == b'\n' {
-                return Scanned {
-                    end: i,
-                    clean,
-                };
+            if b == b'\t' || b == b'\n' {
+                return Scanned { end: i, clean };
             }
             clean = false;
         }
     }
     Scanned {
-        end: s.len(),
+        end: s.len().max(at),
         clean,
     }
 }

@@ -1,49 +1,65 @@
 -- The rosters of all extensions together: laws in the shape of the code.
-use mathlib.Core.Path.{◌≡◌, refl, sym, ap, subst, ◌∙◌}
-use mathlib.Core.Bool.{Bool, false}
+use mathlib.Core.Path.{◌≡◌, refl, sym, ap, ap₂, subst, ◌∙◌}
+use mathlib.Core.Bool.{Bool, true, false, cond}
 use mathlib.Core.List.{List}
-use Prim.Native.Nat.{ℕ, ◌+◌, ◌/◌, ◌≤◌, ◌<◌}
+use Prim.Native.Nat.{ℕ, zero, suc, ◌+◌, ◌≤◌, ◌<◌}
+use native.Mathlib.Numerals.{add-one}
 use native.Mathlib.Decide.{dec_lt}
 use native.Mathlib.Omega.{arith}
-use lib.ListN.{length, get_or, set, replicate}
+use lib.ListN.{length, get_or, drop, set, replicate, length-drop}
+use lib.Seq.{length-take-le}
 use lib.Dec.{eqb}
 use lib.Bits.{bit_and, bit_or}
 use borrow.Author.Tests.{eq-eqb}
 use Rattle.text.proofs.Truths.{never}
 use Rattle.grants.specs.Sides.{everyone, grants_in, listed, roster_in}
-use Rattle.grants.specs.Scratch.{best_in_old, best_in_new, sort_at, line_in}
+use Rattle.grants.specs.Scratch.{sort_at, line_in, Walkable}
 use Rattle.grants.specs.declared.scratch.Counts.{Counts}
 use Rattle.grants.proofs.Stores.{Mixing, mix_start, mix_more, mixed_listed, listed_length, listed_at}
-use Rattle.walks.specs.Gathers.{old_roster, new_roster, or_at, or_rosters, and_at, and_rosters, Within, RosterWithin, InOld, HasNew}
+use Rattle.walks.specs.Gathers.{table_on, count_on, best_on, roster_on, joined_at, joined_by, gathered, Within, InOld, HasNew}
+use Rattle.walks.specs.declared.stems.Side.{Side}
+use Rattle.walks.specs.declared.stems.Side.TheVariants.{Old, New}
 use Rattle.walks.proofs.Withins.{within_or, within_or_last, and_within, and_within_last}
 
--- ---- two rosters, method by method
-module _ (before roster : List ℕ) where
-  -- what either has
-  pub or_start : length before ≡ 32 → Mixing 32 (or_at before roster) before 0 before
-  or_start e = mix_start 32 (or_at before roster) before e
+-- ---- a side's table
+module _ (x : List ℕ) (c : Counts) (W : Walkable x c) (s : Side) (table : List ℕ) (count : ℕ) (e : table ≡ table_on x s) (f : count ≡ count_on c s) where
+  pub table_long : length table ≡ 512
+  table_long = ap length e ∙ go s
+    where
+      go : (s : Side) → length (table_on x s) ≡ 512
+      go Old = length-take-le 512 (drop 0 x) (omega (arith, W.size, length-drop 0 x))
+      go New = length-take-le 512 (drop 512 x) (omega (arith, W.size, length-drop 512 x))
 
-  pub or_more : (m : ℕ) (out : List ℕ) → Mixing 32 (or_at before roster) before m out → m < 32
-      → Mixing 32 (or_at before roster) before (m + 1) (set out m (bit_or (get_or out m 0) (get_or roster m 0)))
-  or_more m out M h =
-      mix_more 32 (or_at before roster) before m (bit_or (get_or out m 0) (get_or roster m 0)) out M h (ap (λ (x : ℕ). bit_or x (get_or roster m 0)) (M.left m (omega arith)))
+  pub lines_few : count ≤ 128
+  lines_few = rw f (go s)
+    where
+      go : (s : Side) → count_on c s ≤ 128
+      go Old = W.olds
+      go New = W.news
 
-  pub or_all : (m : ℕ) (out : List ℕ) → Mixing 32 (or_at before roster) before m out → 32 ≤ m → out ≡ or_rosters before roster
-  unfolding or_rosters
-  or_all m out M h = mixed_listed 32 m (or_at before roster) before out M h
+  pub roster_on_table : (had : ℕ) (roster : List ℕ) → roster ≡ roster_in (table_on x s) (count_on c s) had → roster ≡ roster_in table count had
+  roster_on_table had roster q = q ∙ ap₂ (λ (t : List ℕ) (n : ℕ). roster_in t n had) (sym e) (sym f)
 
-  -- what both have
-  pub and_start : length before ≡ 32 → Mixing 32 (and_at before roster) before 0 before
-  and_start e = mix_start 32 (and_at before roster) before e
+-- ---- two rosters joined, method by method
+module _ (op : ℕ → ℕ → ℕ) (before roster : List ℕ) where
+  pub join_start : length before ≡ 32 → Mixing 32 (joined_at op before roster) before 0 before
+  join_start e = mix_start 32 (joined_at op before roster) before e
 
-  pub and_more : (m : ℕ) (out : List ℕ) → Mixing 32 (and_at before roster) before m out → m < 32
-      → Mixing 32 (and_at before roster) before (m + 1) (set out m (bit_and (get_or out m 0) (get_or roster m 0)))
-  and_more m out M h =
-      mix_more 32 (and_at before roster) before m (bit_and (get_or out m 0) (get_or roster m 0)) out M h (ap (λ (x : ℕ). bit_and x (get_or roster m 0)) (M.left m (omega arith)))
+  pub join_more : (m v : ℕ) (out : List ℕ) → Mixing 32 (joined_at op before roster) before m out → m < 32 → v ≡ op (get_or out m 0) (get_or roster m 0)
+      → Mixing 32 (joined_at op before roster) before (m + 1) (set out m v)
+  join_more m v out M h e = mix_more 32 (joined_at op before roster) before m v out M h (e ∙ ap (λ (x : ℕ). op x (get_or roster m 0)) (M.left m (omega arith)))
 
-  pub and_all : (m : ℕ) (out : List ℕ) → Mixing 32 (and_at before roster) before m out → 32 ≤ m → out ≡ and_rosters before roster
-  unfolding and_rosters
-  and_all m out M h = mixed_listed 32 m (and_at before roster) before out M h
+  pub join_all : (m : ℕ) (out : List ℕ) → Mixing 32 (joined_at op before roster) before m out → 32 ≤ m → out ≡ joined_by op before roster
+  unfolding joined_by
+  join_all m out M h = mixed_listed 32 m (joined_at op before roster) before out M h
+
+  pub joined_size : length (joined_by op before roster) ≡ 32
+  unfolding joined_by
+  joined_size = listed_length 32 (joined_at op before roster)
+
+  pub joined_here : (m : ℕ) → m < 32 → get_or (joined_by op before roster) m 0 ≡ op (get_or before m 0) (get_or roster m 0)
+  unfolding joined_by
+  joined_here m h = listed_at 32 (joined_at op before roster) m h
 
 -- ---- the roster that is kept over the turns
 module _ (side : List ℕ) (n : ℕ) where
@@ -56,81 +72,78 @@ module _ (side : List ℕ) (n : ℕ) where
   pub roster_of_line : (line l : ℕ) (roster : List ℕ) → line ≡ l → roster ≡ roster_in side n l → roster ≡ roster_in side n line
   roster_of_line line l roster p e = e ∙ ap (roster_in side n) (sym p)
 
-  -- whose number was halved
-  pub roster_halved : (v u : ℕ) (roster : List ℕ) → v ≡ u → roster ≡ roster_in side n (v / 2) → roster ≡ roster_in side n (line_in u)
-  roster_halved v u roster p e = e ∙ ap (λ (w : ℕ). roster_in side n (w / 2)) p
-
-pub line_halved : (v u : ℕ) → v ≡ u → v / 2 ≡ line_in u
-line_halved v u p = ap line_in p
-
--- ---- stem after stem, in new
-module _ (x : List ℕ) (c : Counts) where
+-- ---- stem after stem
+module _ (op : ℕ → ℕ → ℕ) (x : List ℕ) (c : Counts) (s : Side) (before : List ℕ) where
   -- none yet
-  pub new_start : (any : List ℕ) → length any ≡ 32 → HasNew x c 0 any
-  new_start any e = record { size = e; all = λ i h. absurd (omega arith) }
+  pub gather_none : before ≡ gathered op x c s 0 before
+  unfolding gathered
+  gather_none = refl
 
-  module _ (i : ℕ) (any : List ℕ) (h : HasNew x c i any) where
+  module _ (k : ℕ) (all : List ℕ) (due : all ≡ gathered op x c s k before) (b : Bool) (p : b ≡ eqb (sort_at x k) 3) where
     -- one that has an extension
-    pub new_more : (roster any' : List ℕ) → roster ≡ new_roster x c (best_in_new x i) → any' ≡ or_rosters any roster → HasNew x c (i + 1) any'
-    unfolding or_rosters
-    new_more roster any' q e =
-        record { size = ap length e ∙ listed_length 32 (or_at any roster); all = λ k b s m t. subst (Within (get_or (new_roster x c (best_in_new x k)) m 0)) (sym (at m t)) (go k m b s t (dec_lt k i)) }
-      where
-        at : (m : ℕ) → m < 32 → get_or any' m 0 ≡ or_at any roster m
-        at m t = ap (λ (r : List ℕ). get_or r m 0) e ∙ listed_at 32 (or_at any roster) m t
-
-        go : (k m : ℕ) → k < i + 1 → sort_at x k ≡ 3 → m < 32 → Dec (k < i) → Within (get_or (new_roster x c (best_in_new x k)) m 0) (or_at any roster m)
-        go k m b s t (yes d) = within_or (get_or (new_roster x c (best_in_new x k)) m 0) (get_or any m 0) (get_or roster m 0) (h.all k d s m t)
-        go k m b s t (no d) =
-            let same : get_or (new_roster x c (best_in_new x k)) m 0 ≡ get_or roster m 0 =
-            ap (λ (n : ℕ). get_or (new_roster x c (best_in_new x n)) m 0) (let z : k ≡ i = omega arith in z) ∙ ap (λ (r : List ℕ). get_or r m 0) (sym q) in
-            subst (λ (a : ℕ). Within a (or_at any roster m)) (sym same) (within_or_last (get_or roster m 0) (get_or any m 0))
+    pub gather_more : (roster all' : List ℕ) → b ≡ true → roster ≡ roster_on x c s (best_on x s k) → all' ≡ joined_by op all roster → all' ≡ gathered op x c s (k + 1) before
+    unfolding gathered
+    gather_more roster all' q r e = e ∙ ap₂ (joined_by op) due r ∙ rw (add-one k, sym p ∙ q)
 
     -- one that has none
-    pub new_pass : (b : Bool) → b ≡ eqb (sort_at x i) 3 → b ≡ false → HasNew x c (i + 1) any
-    new_pass b p q = record { size = h.size; all = λ k l s. go k l s (dec_lt k i) }
-      where
-        go : (k : ℕ) → k < i + 1 → sort_at x k ≡ 3 → Dec (k < i) → RosterWithin (new_roster x c (best_in_new x k)) any
-        go k l s (yes d) = h.all k d s
-        go k l s (no d) =
-            absurd (never b (p ∙ eq-eqb (sort_at x i) 3 (subst (λ (n : ℕ). sort_at x n ≡ 3) (let z : k ≡ i = omega arith in z) s)) q)
+    pub gather_pass : b ≡ false → all ≡ gathered op x c s (k + 1) before
+    unfolding gathered
+    gather_pass q = due ∙ rw (add-one k, sym p ∙ q)
 
-    -- all
-    pub new_all : (n : ℕ) → n ≤ i → HasNew x c n any
-    new_all n l = record { size = h.size; all = λ k b s. h.all k (omega arith) s }
+  -- all
+  pub gather_all : (k n : ℕ) (all : List ℕ) → all ≡ gathered op x c s k before → k ≤ n → n ≤ k → all ≡ gathered op x c s n before
+  gather_all k n all due h l = due ∙ ap (λ (i : ℕ). gathered op x c s i before) (omega arith)
 
--- ---- stem after stem, in old
-module _ (x : List ℕ) (c : Counts) where
-  -- none yet
-  pub old_start : (each : List ℕ) → length each ≡ 32 → InOld x c 0 each
-  old_start each e = record { size = e; all = λ i h. absurd (omega arith) }
+-- what is gathered has a set for each method
+gathered_size : (op : ℕ → ℕ → ℕ) (x : List ℕ) (c : Counts) (s : Side) (k : ℕ) (before : List ℕ) → length before ≡ 32 → length (gathered op x c s k before) ≡ 32
+unfolding gathered
+gathered_size op x c s zero before e = e
+gathered_size op x c s (suc k) before e = go (eqb (sort_at x k) 3) (gathered_size op x c s k before e)
+  where
+    go : (b : Bool) → length (gathered op x c s k before) ≡ 32 → length (cond b (joined_by op (gathered op x c s k before) (roster_on x c s (best_on x s k))) (gathered op x c s k before)) ≡ 32
+    go true ih = joined_size op (gathered op x c s k before) (roster_on x c s (best_on x s k))
+    go false ih = ih
 
-  module _ (i : ℕ) (each : List ℕ) (h : InOld x c i each) where
-    -- one that has an extension
-    pub old_more : (roster each' : List ℕ) → roster ≡ old_roster x c (best_in_old x i) → each' ≡ and_rosters each roster → InOld x c (i + 1) each'
-    unfolding and_rosters
-    old_more roster each' q e =
-        record { size = ap length e ∙ listed_length 32 (and_at each roster); all = λ k b s m t. subst (λ (a : ℕ). Within a (get_or (old_roster x c (best_in_old x k)) m 0)) (sym (at m t)) (go k m b s t (dec_lt k i)) }
-      where
-        at : (m : ℕ) → m < 32 → get_or each' m 0 ≡ and_at each roster m
-        at m t = ap (λ (r : List ℕ). get_or r m 0) e ∙ listed_at 32 (and_at each roster) m t
+-- ---- by a join of which each part has a relation to the whole
+module _ (op : ℕ → ℕ → ℕ) (Has : ℕ → ℕ → Type 0) (last : (a p : ℕ) → Has (op a p) p) (keep : (a p q : ℕ) → Has a q → Has (op a p) q)
+    (x : List ℕ) (c : Counts) (s : Side) (before : List ℕ) where
+  gathered_has : (k i m : ℕ) → i < k → sort_at x i ≡ 3 → m < 32 → Has (get_or (gathered op x c s k before) m 0) (get_or (roster_on x c s (best_on x s i)) m 0)
+  unfolding gathered
+  gathered_has zero i m h t l = absurd (omega arith)
+  gathered_has (suc k) i m h t l = go (eqb (sort_at x k) 3) refl (dec_lt i k) (λ d. gathered_has k i m d t l)
+    where
+      all : List ℕ
+      all = gathered op x c s k before
 
-        go : (k m : ℕ) → k < i + 1 → sort_at x k ≡ 3 → m < 32 → Dec (k < i) → Within (and_at each roster m) (get_or (old_roster x c (best_in_old x k)) m 0)
-        go k m b s t (yes d) = and_within (get_or each m 0) (get_or roster m 0) (get_or (old_roster x c (best_in_old x k)) m 0) (h.all k d s m t)
-        go k m b s t (no d) =
-            let same : get_or (old_roster x c (best_in_old x k)) m 0 ≡ get_or roster m 0 =
-            ap (λ (n : ℕ). get_or (old_roster x c (best_in_old x n)) m 0) (let z : k ≡ i = omega arith in z) ∙ ap (λ (r : List ℕ). get_or r m 0) (sym q) in
-            subst (Within (and_at each roster m)) (sym same) (and_within_last (get_or each m 0) (get_or roster m 0))
+      one : List ℕ
+      one = roster_on x c s (best_on x s k)
 
-    -- one that has none
-    pub old_pass : (b : Bool) → b ≡ eqb (sort_at x i) 3 → b ≡ false → InOld x c (i + 1) each
-    old_pass b p q = record { size = h.size; all = λ k l s. go k l s (dec_lt k i) }
-      where
-        go : (k : ℕ) → k < i + 1 → sort_at x k ≡ 3 → Dec (k < i) → RosterWithin each (old_roster x c (best_in_old x k))
-        go k l s (yes d) = h.all k d s
-        go k l s (no d) =
-            absurd (never b (p ∙ eq-eqb (sort_at x i) 3 (subst (λ (n : ℕ). sort_at x n ≡ 3) (let z : k ≡ i = omega arith in z) s)) q)
+      part : ℕ
+      part = get_or (roster_on x c s (best_on x s i)) m 0
 
-    -- all
-    pub old_all : (n : ℕ) → n ≤ i → InOld x c n each
-    old_all n l = record { size = h.size; all = λ k b s. h.all k (omega arith) s }
+      go : (b : Bool) → eqb (sort_at x k) 3 ≡ b → Dec (i < k) → (i < k → Has (get_or all m 0) part) → Has (get_or (cond b (joined_by op all one) all) m 0) part
+      go true e (yes d) ih = subst (λ (a : ℕ). Has a part) (sym (joined_here op all one m l)) (keep (get_or all m 0) (get_or one m 0) part (ih d))
+      go true e (no d) ih =
+          let z : k ≡ i = omega arith in
+          subst (λ (a : ℕ). Has a part) (sym (joined_here op all one m l))
+          (subst (λ (n : ℕ). Has (op (get_or all m 0) (get_or one m 0)) (get_or (roster_on x c s (best_on x s n)) m 0)) z (last (get_or all m 0) (get_or one m 0)))
+      go false e (yes d) ih = ih d
+      go false e (no d) ih = absurd (let z : k ≡ i = omega arith in never (eqb (sort_at x k) 3) (eq-eqb (sort_at x k) 3 (subst (λ (n : ℕ). sort_at x n ≡ 3) (sym z) t)) e)
+
+-- in new
+pub all_new : (x : List ℕ) (c : Counts) (n : ℕ) (before any : List ℕ) → length before ≡ 32 → any ≡ gathered bit_or x c New n before → HasNew x c n any
+all_new x c n before any e q =
+    rw q
+    record {
+      size = gathered_size bit_or x c New n before e;
+      all = λ i h t m l. gathered_has bit_or (λ (a p : ℕ). Within p a) (λ a p. within_or_last p a) (λ a p q w. within_or q a p w) x c New before n i m h t l;
+    }
+
+-- in old
+pub all_old : (x : List ℕ) (c : Counts) (n : ℕ) (before each : List ℕ) → length before ≡ 32 → each ≡ gathered bit_and x c Old n before → InOld x c n each
+all_old x c n before each e q =
+    rw q
+    record {
+      size = gathered_size bit_and x c Old n before e;
+      all = λ i h t m l. gathered_has bit_and Within (λ a p. and_within_last a p) (λ a p q w. and_within a p q w) x c Old before n i m h t l;
+    }

@@ -29,39 +29,38 @@ use Rattle.trials.specs.Verdicts.{verdict}
 use Rattle.trials.proofs.Bounds.{pattern_permitted, filler_of_fills}
 use Rattle.trials.proofs.Loops.{verdict_shown}
 use Rattle.trials.proofs.Turns.{some_none, some_one, paths_by_lines, paths_below, extensions_by_lines}
+use Rattle.std.specs.Prelude.{Option as Maybe, Some, None}
 use Rattle.grants.specs.Sides.{caller_at, line_number, best_in, Ready}
 use Rattle.grants.specs.Catches.{shown_on, caught_in, caught_on}
 use Rattle.grants.specs.Scratch.{old_side, new_side, pairs_in, best_in_old, best_in_new, sort_at, best_number, line_in, staying, sort_of, sorted, stem_best, stem_path, texts_of, StemIn, Numbered}
 use Rattle.grants.specs.declared.scratch.Counts.{Counts}
-use Rattle.grants.specs.declared.judging.Caught.{Caught}
-use Rattle.grants.specs.declared.judging.Caught.TheVariants as C
+use Rattle.grants.specs.declared.judging.Catch.{Catch}
 use Rattle.grants.proofs.Grants.{caught_at_lem}
 use Rattle.grants.proofs.Stems.{line_of_best, prefix_rooted, extension_plain, stem_best_lem, last_best, behind_best}
-use Rattle.walks.specs.Walks.{caught_at, caught_behind, behind_from, behind, stem_hit, walk_from, walked, kind_at, hit_path, hit_shown}
+use Rattle.walks.specs.Walks.{some_hit, caught_at, caught_behind, behind_from, behind, stem_hit, walk_from, walked, kind_at, hit_path, hit_shown}
 use Rattle.walks.specs.declared.walking.Hit.{Hit}
-use Rattle.walks.specs.declared.walking.Hit.TheVariants as H
 use Rattle.walks.proofs.Firsts.{first_from, from_none, from_more, from_alike, from_last, anew, anew_again, anew_here, anew_first}
 
 -- ---- the walk as the first answer of indices, whatever the numbers are
 module _ (old new : View) (x : List ℕ) (c : Counts) where
   -- who is caught on a path, as a hit there
-  abbrev hit_at : ℕ → ℕ → Caught → Hit
-  hit_at j e y = elim y [ C.Nothing ↦ H.Nothing | C.At m d ↦ H.At j e m d ]
+  abbrev hit_at : ℕ → Maybe ℕ → Maybe Catch → Maybe Hit
+  hit_at j e y = elim y [ None ↦ None | Some one ↦ some_hit j e one ]
 
   -- the extension of stem i behind stem j
-  abbrev behind_hit : ℕ → ℕ → Hit
-  behind_hit j i = cond (eqb (sort_at x i) 3) (hit_at j (i + 1) (caught_behind x c j i)) H.Nothing
+  abbrev behind_hit : ℕ → ℕ → Maybe Hit
+  behind_hit j i = cond (eqb (sort_at x i) 3) (hit_at j (Some i) (caught_behind x c j i)) None
 
   behind_from_lem : (j k i : ℕ) → hit_shown old new (behind_from x c j k i) ≡ first_from (λ (n : ℕ). hit_shown old new (behind_hit j n)) k i
   unfolding behind_from
   behind_from_lem j zero i = sym (from_none (λ (n : ℕ). hit_shown old new (behind_hit j n)) i)
   behind_from_lem j (suc k) i = go (eqb (sort_at x i) 3) (caught_behind x c j i) (behind_from_lem j k (i + 1)) ∙ sym (from_more (λ (n : ℕ). hit_shown old new (behind_hit j n)) k i)
     where
-      go : (b : Bool) (y : Caught) → hit_shown old new (behind_from x c j k (i + 1)) ≡ first_from (λ (n : ℕ). hit_shown old new (behind_hit j n)) k (i + 1)
-          → hit_shown old new (cond b (elim y [ C.Nothing ↦ behind_from x c j k (i + 1) | C.At m d ↦ H.At j (i + 1) m d ]) (behind_from x c j k (i + 1)))
-          ≡ or_else (hit_shown old new (cond b (hit_at j (i + 1) y) H.Nothing)) (first_from (λ (n : ℕ). hit_shown old new (behind_hit j n)) k (i + 1))
-      go true C.Nothing ih = ih
-      go true (C.At m d) ih = refl
+      go : (b : Bool) (y : Maybe Catch) → hit_shown old new (behind_from x c j k (i + 1)) ≡ first_from (λ (n : ℕ). hit_shown old new (behind_hit j n)) k (i + 1)
+          → hit_shown old new (cond b (elim y [ None ↦ behind_from x c j k (i + 1) | Some y ↦ some_hit j (Some i) y ]) (behind_from x c j k (i + 1)))
+          ≡ or_else (hit_shown old new (cond b (hit_at j (Some i) y) None)) (first_from (λ (n : ℕ). hit_shown old new (behind_hit j n)) k (i + 1))
+      go true None ih = ih
+      go true (Some one) ih = refl
       go false y ih = ih
 
   -- stem after stem
@@ -70,11 +69,11 @@ module _ (old new : View) (x : List ℕ) (c : Counts) where
   walk_from_lem zero j = sym (from_none (λ (n : ℕ). hit_shown old new (stem_hit x c n)) j)
   walk_from_lem (suc k) j = go (stem_hit x c j) (walk_from_lem k (j + 1)) ∙ sym (from_more (λ (n : ℕ). hit_shown old new (stem_hit x c n)) k j)
     where
-      go : (h : Hit) → hit_shown old new (walk_from x c k (j + 1)) ≡ first_from (λ (n : ℕ). hit_shown old new (stem_hit x c n)) k (j + 1)
-          → hit_shown old new (elim h [ H.Nothing ↦ walk_from x c k (j + 1) | H.At i e m d ↦ H.At i e m d ])
+      go : (h : Maybe Hit) → hit_shown old new (walk_from x c k (j + 1)) ≡ first_from (λ (n : ℕ). hit_shown old new (stem_hit x c n)) k (j + 1)
+          → hit_shown old new (elim h [ None ↦ walk_from x c k (j + 1) | Some h ↦ Some h ])
           ≡ or_else (hit_shown old new h) (first_from (λ (n : ℕ). hit_shown old new (stem_hit x c n)) k (j + 1))
-      go H.Nothing ih = ih
-      go (H.At i e m d) ih = refl
+      go None ih = ih
+      go (Some one) ih = refl
 
   -- a stem by its sort: nothing to try
   sort_none : (j : ℕ) → sort_at x j ≡ 0 → hit_shown old new (stem_hit x c j) ≡ none
@@ -82,29 +81,29 @@ module _ (old new : View) (x : List ℕ) (c : Counts) where
   sort_none j e = rw e
 
   -- one path
-  sort_one : (j : ℕ) → eqb (sort_at x j) 0 ≡ false → eqb (sort_at x j) 2 ≡ false → hit_shown old new (stem_hit x c j) ≡ hit_shown old new (hit_at j 0 (caught_at x c (best_in_old x j) (best_in_new x j)))
+  sort_one : (j : ℕ) → eqb (sort_at x j) 0 ≡ false → eqb (sort_at x j) 2 ≡ false → hit_shown old new (stem_hit x c j) ≡ hit_shown old new (hit_at j None (caught_at x c (best_in_old x j) (best_in_new x j)))
   unfolding stem_hit
   sort_one j = go (eqb (sort_at x j) 0) (eqb (sort_at x j) 2) (caught_at x c (best_in_old x j) (best_in_new x j))
     where
-      go : (a b : Bool) (y : Caught) → a ≡ false → b ≡ false
-          → hit_shown old new (cond a H.Nothing (elim y [ C.Nothing ↦ cond b (behind x c j) H.Nothing | C.At m d ↦ H.At j 0 m d ])) ≡ hit_shown old new (hit_at j 0 y)
+      go : (a b : Bool) (y : Maybe Catch) → a ≡ false → b ≡ false
+          → hit_shown old new (cond a None (elim y [ None ↦ cond b (behind x c j) None | Some y ↦ some_hit j None y ])) ≡ hit_shown old new (hit_at j None y)
       go true b y e n = absurd (never true refl e)
       go false true y e n = absurd (never true refl n)
-      go false false C.Nothing e n = refl
-      go false false (C.At m d) e n = refl
+      go false false None e n = refl
+      go false false (Some one) e n = refl
 
   -- a path, then the extensions behind it
   sort_two : (j : ℕ) → eqb (sort_at x j) 0 ≡ false → eqb (sort_at x j) 2 ≡ true
-      → hit_shown old new (stem_hit x c j) ≡ or_else (hit_shown old new (hit_at j 0 (caught_at x c (best_in_old x j) (best_in_new x j)))) (hit_shown old new (behind x c j))
+      → hit_shown old new (stem_hit x c j) ≡ or_else (hit_shown old new (hit_at j None (caught_at x c (best_in_old x j) (best_in_new x j)))) (hit_shown old new (behind x c j))
   unfolding stem_hit
   sort_two j = go (eqb (sort_at x j) 0) (eqb (sort_at x j) 2) (caught_at x c (best_in_old x j) (best_in_new x j))
     where
-      go : (a b : Bool) (y : Caught) → a ≡ false → b ≡ true
-          → hit_shown old new (cond a H.Nothing (elim y [ C.Nothing ↦ cond b (behind x c j) H.Nothing | C.At m d ↦ H.At j 0 m d ]))
-          ≡ or_else (hit_shown old new (hit_at j 0 y)) (hit_shown old new (behind x c j))
+      go : (a b : Bool) (y : Maybe Catch) → a ≡ false → b ≡ true
+          → hit_shown old new (cond a None (elim y [ None ↦ cond b (behind x c j) None | Some y ↦ some_hit j None y ]))
+          ≡ or_else (hit_shown old new (hit_at j None y)) (hit_shown old new (behind x c j))
       go true b y e n = absurd (never true refl e)
-      go false true C.Nothing e n = refl
-      go false true (C.At m d) e n = refl
+      go false true None e n = refl
+      go false true (Some one) e n = refl
       go false false y e n = absurd (never false n refl)
 
 -- ---- the numbers of two views
@@ -170,10 +169,10 @@ module _ (old new : Listing) (O : Proper old) (N : Proper new) (x : List ℕ) (c
   sort_here j h m = Z.sorts j h ∙ rw m
 
   -- ---- one path
-  hit_shown_lem : (j e : ℕ) (path : Text) → hit_path filler ts j e ≡ path → (y : Caught) → hit_shown ov nv (hit_at ov nv x c j e y) ≡ caught_on old new path y
+  hit_shown_lem : (j : ℕ) (e : Maybe ℕ) (path : Text) → hit_path filler ts j e ≡ path → (y : Maybe Catch) → hit_shown ov nv (hit_at ov nv x c j e y) ≡ caught_on old new path y
   unfolding view_of trial_methods
-  hit_shown_lem j e path q C.Nothing = refl
-  hit_shown_lem j e path q (C.At m d) = ap (λ (v : Text). some (request v (get_or (methods_tried old.methods new.methods) m []) (caller_at new.roles d))) q
+  hit_shown_lem j e path q None = refl
+  hit_shown_lem j e path q (Some one) = ap (λ (v : Text). some (request v (get_or (methods_tried old.methods new.methods) one.method []) (caller_at new.roles one.caller))) q
 
   caught_shown : (path : Text) (u v : ℕ) → u ≡ best_number (leading (texts ov) path) → v ≡ best_number (leading (texts nv) path) → caught_on old new path (caught_at x c u v) ≡ shown_on old new path
   unfolding caught_at best_in
@@ -186,9 +185,9 @@ module _ (old new : Listing) (O : Proper old) (N : Proper new) (x : List ℕ) (c
   -- that of stem j, of kind k
   stem_caught : (j : ℕ) (k : PatternKind) → kind_at ts j ≡ k → StemIn ov nv x j k
       → stem_best (texts ov) k ≡ best_number (leading (texts ov) (stem_path filler k)) → stem_best (texts nv) k ≡ best_number (leading (texts nv) (stem_path filler k))
-      → hit_shown ov nv (hit_at ov nv x c j 0 (caught_at x c (best_in_old x j) (best_in_new x j))) ≡ shown_on old new (stem_path filler k)
+      → hit_shown ov nv (hit_at ov nv x c j None (caught_at x c (best_in_old x j) (best_in_new x j))) ≡ shown_on old new (stem_path filler k)
   stem_caught j k e S p q =
-      hit_shown_lem j 0 (stem_path filler k) (append-nil (stem_path filler (kind_at ts j)) ∙ ap (stem_path filler) e) (caught_at x c (best_in_old x j) (best_in_new x j))
+      hit_shown_lem j None (stem_path filler k) (append-nil (stem_path filler (kind_at ts j)) ∙ ap (stem_path filler) e) (caught_at x c (best_in_old x j) (best_in_new x j))
       ∙ caught_shown (stem_path filler k) (best_in_old x j) (best_in_new x j) (S.in_old_lem ∙ p) (S.in_new_lem ∙ q)
 
   -- ---- the extensions behind a prefix
@@ -197,14 +196,14 @@ module _ (old new : Listing) (O : Proper old) (N : Proper new) (x : List ℕ) (c
     abbrev extended : Text → Option Request
     extended t = first_some (λ (e : Text). shown_on old new (dotted p filler e)) (extension_in (kind_of t))
 
-    behind_path_lem : (i : ℕ) (e : Text) → kind_at ts i ≡ extension e → hit_path filler ts j (i + 1) ≡ dotted p filler e
-    behind_path_lem i e k = rw (add-one i, k, kind) (append_assoc p (slash ∷ filler) (dot ∷ e))
+    behind_path_lem : (i : ℕ) (e : Text) → kind_at ts i ≡ extension e → hit_path filler ts j (Some i) ≡ dotted p filler e
+    behind_path_lem i e k = rw (k, kind) (append_assoc p (slash ∷ filler) (dot ∷ e))
 
     behind_caught : (i : ℕ) (e : Text) → i < length ts → kind_of (get_or ts i []) ≡ extension e → StemIn ov nv x i (extension e)
-        → hit_shown ov nv (hit_at ov nv x c j (i + 1) (caught_behind x c j i)) ≡ shown_on old new (dotted p filler e)
+        → hit_shown ov nv (hit_at ov nv x c j (Some i) (caught_behind x c j i)) ≡ shown_on old new (dotted p filler e)
     behind_caught i e h k T =
         let plain = extension_plain (get_or ts i []) e k in
-        hit_shown_lem j (i + 1) (dotted p filler e) (behind_path_lem i e (kind_here i h ∙ k)) (caught_behind x c j i)
+        hit_shown_lem j (Some i) (dotted p filler e) (behind_path_lem i e (kind_here i h ∙ k)) (caught_behind x c j i)
         ∙ caught_shown (dotted p filler e) (staying (best_in_old x j) (best_in_old x i)) (staying (best_in_new x j) (best_in_new x i))
         (ap₂ staying S.in_old_lem T.in_old_lem ∙ behind_best filler (texts ov) fills_old p e root plain.0 plain.1)
         (ap₂ staying S.in_new_lem T.in_new_lem ∙ behind_best filler (texts nv) fills_new p e root plain.0 plain.1)
@@ -212,7 +211,7 @@ module _ (old new : Listing) (O : Proper old) (N : Proper new) (x : List ℕ) (c
     no_extension : (i : ℕ) → eqb (sort_at x i) 3 ≡ false → hit_shown ov nv (behind_hit ov nv x c j i) ≡ none
     no_extension i e = rw e
 
-    an_extension : (i : ℕ) → sort_at x i ≡ 3 → hit_shown ov nv (behind_hit ov nv x c j i) ≡ hit_shown ov nv (hit_at ov nv x c j (i + 1) (caught_behind x c j i))
+    an_extension : (i : ℕ) → sort_at x i ≡ 3 → hit_shown ov nv (behind_hit ov nv x c j i) ≡ hit_shown ov nv (hit_at ov nv x c j (Some i) (caught_behind x c j i))
     an_extension i e = rw e
 
     one_behind : (i : ℕ) → i < length ts → hit_shown ov nv (behind_hit ov nv x c j i) ≡ anew extended ts i

@@ -6,17 +6,16 @@ use Prim.Native.Nat.{ℕ, suc, ◌+◌, ◌-◌, ◌/◌, ◌≤◌, ◌<◌}
 use native.Mathlib.Omega.{arith}
 use lib.ListN.{length}
 use lib.Dec.{eqb}
+use Rattle.std.specs.Prelude.{Option, Some, None}
 use Rattle.grants.specs.Sides.{roster_in}
 use Rattle.grants.specs.Catches.{caught_from, caught_in}
 use Rattle.grants.specs.Scratch.{old_side, new_side, pairs_in, best_in_old, best_in_new, sort_at, line_in, is_firm_in, staying, Walkable}
 use Rattle.grants.specs.declared.scratch.Counts.{Counts}
-use Rattle.grants.specs.declared.judging.Caught.{Caught}
-use Rattle.grants.specs.declared.judging.Caught.TheVariants as C
+use Rattle.grants.specs.declared.judging.Catch.{Catch}
 use Rattle.grants.proofs.Granting.{roster_size}
 use Rattle.walks.specs.Gathers.{old_roster, new_roster, Gathered, AtStem, caught_together}
-use Rattle.walks.specs.Walks.{caught_at, caught_behind, behind_from, behind, stem_hit, walk_from, walked}
+use Rattle.walks.specs.Walks.{some_hit, caught_at, caught_behind, behind_from, behind, stem_hit, walk_from, walked}
 use Rattle.walks.specs.declared.walking.Hit.{Hit}
-use Rattle.walks.specs.declared.walking.Hit.TheVariants as H
 use Rattle.walks.proofs.Together.{together_none}
 
 -- ---- the line with an extension behind a stem
@@ -30,7 +29,7 @@ module _ (v u : ℕ) (b : Bool) (e : b ≡ is_firm_in v) where
   line_yields t = rw (sym e ∙ t)
 
 -- both are judged
-pub behind_judged : (x : List ℕ) (c : Counts) (j i a b u u' v v' : ℕ) (r : Caught) → u ≡ best_in_old x j → u' ≡ best_in_old x i → a ≡ line_in (staying u u')
+pub behind_judged : (x : List ℕ) (c : Counts) (j i a b u u' v v' : ℕ) (r : Option Catch) → u ≡ best_in_old x j → u' ≡ best_in_old x i → a ≡ line_in (staying u u')
     → v ≡ best_in_new x j → v' ≡ best_in_new x i → b ≡ line_in (staying v v')
     → r ≡ caught_in (old_side x) c.old (new_side x) c.new (pairs_in x) c.methods a b → r ≡ caught_behind x c j i
 unfolding caught_at
@@ -55,7 +54,7 @@ module _ (x : List ℕ) (c : Counts) (j : ℕ) where
     going_step : (b : Bool) → i < c.old + c.new → b ≡ eqb (sort_at x i) 3
         → behind x c j
         ≡ cond b
-        (elim (caught_behind x c j i) [ C.Nothing ↦ behind_from x c j ((c.old + c.new) - (i + 1)) (i + 1) | C.At m d ↦ H.At j (i + 1) m d ])
+        (elim (caught_behind x c j i) [ None ↦ behind_from x c j ((c.old + c.new) - (i + 1)) (i + 1) | Some y ↦ some_hit j (Some i) y ])
         (behind_from x c j ((c.old + c.new) - (i + 1)) (i + 1))
     unfolding behind_from
     going_step b h e =
@@ -64,11 +63,11 @@ module _ (x : List ℕ) (c : Counts) (j : ℕ) where
 
     module _ (b : Bool) (count : ℕ) (all : count ≡ c.old + c.new) (h : i < count) (e : b ≡ eqb (sort_at x i) 3) where
       -- its extension shows
-      pub going_found : (m d : ℕ) (r : Caught) → b ≡ true → r ≡ caught_behind x c j i → r ≡ C.At m d → H.At j (i + 1) m d ≡ behind x c j
-      going_found m d r t p q = sym (going_step b (omega arith) e ∙ rw (t, sym p ∙ q))
+      pub going_found : (y : Catch) (r : Option Catch) → b ≡ true → r ≡ caught_behind x c j i → r ≡ Some y → some_hit j (Some i) y ≡ behind x c j
+      going_found y r t p q = sym (going_step b (omega arith) e ∙ rw (t, sym p ∙ q))
 
       -- it does not
-      pub going_on : (r : Caught) → b ≡ true → r ≡ caught_behind x c j i → r ≡ C.Nothing → Going x c j (i + 1)
+      pub going_on : (r : Option Catch) → b ≡ true → r ≡ caught_behind x c j i → r ≡ None → Going x c j (i + 1)
       going_on r t p q = record { within = omega arith; due = going_step b (omega arith) e ∙ rw (t, sym p ∙ q) }
 
       -- it has none
@@ -76,7 +75,7 @@ module _ (x : List ℕ) (c : Counts) (j : ℕ) where
       going_past t = record { within = omega arith; due = going_step b (omega arith) e ∙ rw t }
 
     -- none is left
-    pub going_end : (count : ℕ) → count ≡ c.old + c.new → count ≤ i → H.Nothing ≡ behind x c j
+    pub going_end : (count : ℕ) → count ≡ c.old + c.new → count ≤ i → None ≡ behind x c j
     unfolding behind_from
     going_end count all h =
         let k : (c.old + c.new) - i ≡ 0 = omega arith in
@@ -100,7 +99,7 @@ module _ (x : List ℕ) (c : Counts) (j : ℕ) (ro rn : List ℕ) (S : AtStem x 
   stem_new_size = roster_size (new_side x) c.new (line_in (best_in_new x j)) rn S.new_roster_lem
 
 -- the rosters that were picked are judged
-pub together_judged : (x : List ℕ) (c : Counts) (j u v : ℕ) (ro rn each any o n : List ℕ) (f g : Bool) (r : Caught) → u ≡ best_in_old x j → f ≡ is_firm_in u → o ≡ cond f ro each
+pub together_judged : (x : List ℕ) (c : Counts) (j u v : ℕ) (ro rn each any o n : List ℕ) (f g : Bool) (r : Option Catch) → u ≡ best_in_old x j → f ≡ is_firm_in u → o ≡ cond f ro each
     → v ≡ best_in_new x j → g ≡ is_firm_in v → n ≡ cond g rn any → r ≡ caught_from o n (pairs_in x) c.methods 0 → r ≡ caught_together x c j ro rn each any
 unfolding caught_together
 together_judged x c j u v ro rn each any o n f g r p f' o' q g' n' e =
@@ -110,32 +109,32 @@ together_judged x c j u v ro rn each any o n f g r p f' o' q g' n' e =
 
 -- ---- what a stem shows
 module _ (x : List ℕ) (c : Counts) (j : ℕ) (ro rn : List ℕ) (S : AtStem x c j ro rn) (first : eqb (sort_at x j) 0 ≡ false)
-    (r : Caught) (judged : r ≡ caught_from ro rn (pairs_in x) c.methods 0) where
+    (r : Option Catch) (judged : r ≡ caught_from ro rn (pairs_in x) c.methods 0) where
   -- who is caught on its path
   stem_caught : caught_at x c (best_in_old x j) (best_in_new x j) ≡ r
   unfolding caught_at caught_in
   stem_caught = sym (judged ∙ ap₂ (λ (y z : List ℕ). caught_from y z (pairs_in x) c.methods 0) S.old_roster_lem S.new_roster_lem)
 
   -- its path shows
-  pub stem_found : (m d : ℕ) → r ≡ C.At m d → H.At j 0 m d ≡ stem_hit x c j
+  pub stem_found : (y : Catch) → r ≡ Some y → some_hit j None y ≡ stem_hit x c j
   unfolding stem_hit
-  stem_found m d e = rw (first, stem_caught, e)
+  stem_found y e = rw (first, stem_caught, e)
 
-  module _ (none : r ≡ C.Nothing) (b : Bool) (sort : b ≡ eqb (sort_at x j) 2) where
+  module _ (none : r ≡ None) (b : Bool) (sort : b ≡ eqb (sort_at x j) 2) where
     -- nothing can stand behind it
-    pub stem_alone : b ≡ false → H.Nothing ≡ stem_hit x c j
+    pub stem_alone : b ≡ false → None ≡ stem_hit x c j
     unfolding stem_hit
     stem_alone f = rw (first, stem_caught, none, sym sort ∙ f)
 
     module _ (t : b ≡ true) where
       -- what stands behind it
-      pub stem_behind : (h : Hit) → h ≡ behind x c j → h ≡ stem_hit x c j
+      pub stem_behind : (h : Option Hit) → h ≡ behind x c j → h ≡ stem_hit x c j
       unfolding stem_hit
       stem_behind h e = e ∙ rw (first, stem_caught, none, sym sort ∙ t)
 
       -- all extensions together do not show
-      pub stem_nothing : (each any : List ℕ) (s : Caught) → Walkable x c → Gathered x c each any → s ≡ caught_together x c j ro rn each any → s ≡ C.Nothing → H.Nothing ≡ stem_hit x c j
-      stem_nothing each any s W G e f = stem_behind H.Nothing (sym (together_none x c j ro rn each any W S G (sym e ∙ f)))
+      pub stem_nothing : (each any : List ℕ) (s : Option Catch) → Walkable x c → Gathered x c each any → s ≡ caught_together x c j ro rn each any → s ≡ None → None ≡ stem_hit x c j
+      stem_nothing each any s W G e f = stem_behind None (sym (together_none x c j ro rn each any W S G (sym e ∙ f)))
 
 -- ---- stem after stem
 -- those from j on are still to be tried; the rosters are those of the line lo of old and of the line ln of new
@@ -155,8 +154,8 @@ module _ (x : List ℕ) (c : Counts) (ro rn : List ℕ) where
 
   module _ (lo ln j : ℕ) (A : Ahead x c ro rn lo ln j) where
     -- one stem more
-    ahead_step : (h : Hit) → j < c.old + c.new + 1 → h ≡ stem_hit x c j
-        → walked x c ≡ elim h [ H.Nothing ↦ walk_from x c ((c.old + c.new + 1) - (j + 1)) (j + 1) | H.At i e m d ↦ H.At i e m d ]
+    ahead_step : (h : Option Hit) → j < c.old + c.new + 1 → h ≡ stem_hit x c j
+        → walked x c ≡ elim h [ None ↦ walk_from x c ((c.old + c.new + 1) - (j + 1)) (j + 1) | Some h ↦ Some h ]
     unfolding walk_from
     ahead_step h l e =
         let k : (c.old + c.new + 1) - j ≡ suc ((c.old + c.new + 1) - (j + 1)) = omega arith in
@@ -167,16 +166,16 @@ module _ (x : List ℕ) (c : Counts) (ro rn : List ℕ) where
       pub ahead_past : (b : Bool) → b ≡ eqb (sort_at x j) 0 → b ≡ true → Ahead x c ro rn lo ln (j + 1)
       unfolding stem_hit
       ahead_past b p q =
-          let nothing : H.Nothing ≡ stem_hit x c j = rw (sym p ∙ q) in
-          record { within = omega arith; due = ahead_step H.Nothing (omega arith) nothing; old_roster_lem = A.old_roster_lem; new_roster_lem = A.new_roster_lem }
+          let nothing : None ≡ stem_hit x c j = rw (sym p ∙ q) in
+          record { within = omega arith; due = ahead_step None (omega arith) nothing; old_roster_lem = A.old_roster_lem; new_roster_lem = A.new_roster_lem }
 
-      module _ (h : Hit) (e : h ≡ stem_hit x c j) where
+      module _ (h : Option Hit) (e : h ≡ stem_hit x c j) where
         -- it shows
-        pub ahead_found : (i k m d : ℕ) → h ≡ H.At i k m d → H.At i k m d ≡ walked x c
-        ahead_found i k m d f = sym (ahead_step h (omega arith) e ∙ rw f)
+        pub ahead_found : (y : Hit) → h ≡ Some y → Some y ≡ walked x c
+        ahead_found y f = sym (ahead_step h (omega arith) e ∙ rw f)
 
         -- it does not
-        pub ahead_on : (u v : ℕ) (ro' rn' : List ℕ) → h ≡ H.Nothing → u ≡ line_in (best_in_old x j) → v ≡ line_in (best_in_new x j)
+        pub ahead_on : (u v : ℕ) (ro' rn' : List ℕ) → h ≡ None → u ≡ line_in (best_in_old x j) → v ≡ line_in (best_in_new x j)
             → ro' ≡ old_roster x c (best_in_old x j) → rn' ≡ new_roster x c (best_in_new x j) → Ahead x c ro' rn' u v (j + 1)
         ahead_on u v ro' rn' f p q p' q' =
             record {
@@ -187,7 +186,7 @@ module _ (x : List ℕ) (c : Counts) (ro rn : List ℕ) where
             }
 
     -- none is left
-    pub ahead_end : (count : ℕ) → count ≡ c.old + c.new + 1 → count ≤ j → H.Nothing ≡ walked x c
+    pub ahead_end : (count : ℕ) → count ≡ c.old + c.new + 1 → count ≤ j → None ≡ walked x c
     unfolding walk_from
     ahead_end count all h =
         let k : (c.old + c.new + 1) - j ≡ 0 = omega arith in

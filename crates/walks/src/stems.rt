@@ -1,27 +1,49 @@
 // The numbers of a stem, and its rosters.
 ghost use Rattle.std.specs.Prelude.{◌≡◌, ◌≤◌, eqb, length};
 ghost use Rattle.grants.specs.Sides.{roster_in};
-ghost use Rattle.grants.specs.Scratch.{old_side, new_side, best_in_old, best_in_new, sort_at, line_in, is_firm_in, staying, Walkable};
-ghost use Rattle.walks.specs.Gathers.{old_roster, new_roster};
+ghost use Rattle.grants.specs.Scratch.{sort_at, line_in, is_firm_in, staying, Walkable};
+ghost use Rattle.walks.specs.Gathers.{table_on, count_on, best_on, roster_on};
 
-use entries::tables;
 use grants::scratch::Counts;
 use grants::{rosters, scratch};
 
-// Its best line in old.
-pub fn in_old(x: &[u32], j: usize) -> usize
-    requires { (length x.now ≡ 2048) × (j ≤ 256) }
-    ensures { result ≡ best_in_old x.now j }
-{
-    tables::wide(x[scratch::IN_OLD + j])
+// One of the two listings.
+#[derive(Clone, Copy)]
+pub enum Side {
+    Old,
+    New,
 }
 
-// In new.
-pub fn in_new(x: &[u32], j: usize) -> usize
-    requires { (length x.now ≡ 2048) × (j ≤ 256) }
-    ensures { result ≡ best_in_new x.now j }
+// The table of its lines.
+pub fn table<'a>(x: &'a [u32], side: Side) -> &'a [u32]
+    requires { length x.now ≡ 2048 }
+    ensures { result.now ≡ table_on x.now side }
 {
-    tables::wide(x[scratch::IN_NEW + j])
+    match side {
+        Side::Old => &x[scratch::OLD_SIDE..scratch::NEW_SIDE],
+        Side::New => &x[scratch::NEW_SIDE..scratch::METHODS],
+    }
+}
+
+// How many lines it has.
+pub fn line_count(c: Counts, side: Side) -> usize
+    ensures { result ≡ count_on c side }
+{
+    match side {
+        Side::Old => c.old,
+        Side::New => c.new,
+    }
+}
+
+// The best line of stem j in it.
+pub fn best(x: &[u32], side: Side, j: usize) -> usize
+    requires { (length x.now ≡ 2048) × (j ≤ 256) }
+    ensures { result ≡ best_on x.now side j }
+{
+    match side {
+        Side::Old => x[scratch::IN_OLD + j] as usize,
+        Side::New => x[scratch::IN_NEW + j] as usize,
+    }
 }
 
 // Whether it is of a sort.
@@ -49,36 +71,13 @@ pub fn line_behind(v: usize, u: usize) -> usize
     u / 2
 }
 
-// From old's roster of the line `had` to that of stem j; the number of its line.
-pub fn refresh_old(x: &[u32], c: Counts, had: usize, j: usize, roster: &mut [u64]) -> usize
-    requires { (Walkable x.now c × (j ≤ 256)) × (roster.old ≡ roster_in (old_side x.now) c.old had) }
-    ensures roster { roster.new ≡ old_roster x.now c (best_in_old x.now j) }
-    ensures line { result ≡ line_in (best_in_old x.now j) }
+// From a listing's roster of the line `had` to that of stem j; the number of its line.
+pub fn refresh(x: &[u32], c: Counts, side: Side, had: usize, j: usize, roster: &mut [u64]) -> usize
+    requires { (Walkable x.now c × (j ≤ 256)) × (roster.old ≡ roster_in (table_on x.now side) (count_on c side) had) }
+    ensures roster { roster.new ≡ roster_on x.now c side (best_on x.now side j) }
+    ensures line { result ≡ line_in (best_on x.now side j) }
 {
-    let line = in_old(x, j) / 2;
-    rosters::refresh(
-        &x[scratch::OLD_SIDE..scratch::NEW_SIDE],
-        c.old,
-        had,
-        line,
-        roster,
-    );
-    line
-}
-
-// The same in new.
-pub fn refresh_new(x: &[u32], c: Counts, had: usize, j: usize, roster: &mut [u64]) -> usize
-    requires { (Walkable x.now c × (j ≤ 256)) × (roster.old ≡ roster_in (new_side x.now) c.new had) }
-    ensures roster { roster.new ≡ new_roster x.now c (best_in_new x.now j) }
-    ensures line { result ≡ line_in (best_in_new x.now j) }
-{
-    let line = in_new(x, j) / 2;
-    rosters::refresh(
-        &x[scratch::NEW_SIDE..scratch::METHODS],
-        c.new,
-        had,
-        line,
-        roster,
-    );
+    let line = best(x, side, j) / 2;
+    rosters::refresh(table(x, side), line_count(c, side), had, line, roster);
     line
 }

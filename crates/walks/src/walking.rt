@@ -4,25 +4,27 @@ ghost use Rattle.grants.specs.Scratch.{Walkable, sort_at};
 ghost use Rattle.walks.specs.Walks.{caught_behind, behind, stem_hit, walked};
 ghost use Rattle.walks.specs.Gathers.{Gathered, AtStem, caught_together};
 
+use crate::stems::Side;
 use crate::{gathering, stems};
-use grants::judging::Caught;
+use grants::judging::Catch;
 use grants::scratch::Counts;
 use grants::{judging, rosters, scratch};
 
-// Nothing, or four numbers: a stem; the extension behind it, counted from 1, or 0 where there is none; the trial method; the caller.
+// A stem, the line whose extension stands behind it, if any, and who is caught there.
 #[derive(Clone, Copy)]
-pub enum Hit {
-    Nothing,
-    At(usize, usize, usize, u32),
+pub struct Hit {
+    pub stem: usize,
+    pub ending: Option<usize>,
+    pub caught: Catch,
 }
 
 // Who is caught at stem j, with the extension of stem i behind it.
-pub fn catch_behind(x: &[u32], c: Counts, j: usize, i: usize) -> Caught
+pub fn catch_behind(x: &[u32], c: Counts, j: usize, i: usize) -> Option<Catch>
     requires { Walkable x.now c × ((j ≤ 256) × (i ≤ 256)) }
     ensures { result ≡ caught_behind x.now c j i }
 {
-    let u = stems::line_behind(stems::in_old(x, j), stems::in_old(x, i));
-    let v = stems::line_behind(stems::in_new(x, j), stems::in_new(x, i));
+    let u = stems::line_behind(stems::best(x, Side::Old, j), stems::best(x, Side::Old, i));
+    let v = stems::line_behind(stems::best(x, Side::New, j), stems::best(x, Side::New, i));
     let old = &x[scratch::OLD_SIDE..scratch::NEW_SIDE];
     let new = &x[scratch::NEW_SIDE..scratch::METHODS];
     let pairs = &x[scratch::METHODS..scratch::IN_OLD];
@@ -30,26 +32,23 @@ pub fn catch_behind(x: &[u32], c: Counts, j: usize, i: usize) -> Caught
 }
 
 // The first extension by which stem j shows.
-pub fn go_behind(x: &[u32], c: Counts, j: usize) -> Hit
+pub fn go_behind(x: &[u32], c: Counts, j: usize) -> Option<Hit>
     requires { Walkable x.now c × (j ≤ 256) }
     ensures { result ≡ behind x.now c j }
 {
     let count = c.old + c.new;
-    let mut i = 0;
-    while i < count {
-        let next = i + 1;
+    for i in 0..count {
         if stems::is_of_sort(x, i, 3) {
-            match catch_behind(x, c, j, i) {
-                Caught::At(m, d) => return Hit::At(j, next, m, d),
-                Caught::Nothing => {
-                    i = next;
-                }
+            if let Some(caught) = catch_behind(x, c, j, i) {
+                return Some(Hit {
+                    stem: j,
+                    ending: Some(i),
+                    caught,
+                });
             }
-        } else {
-            i = next;
         }
     }
-    Hit::Nothing
+    None
 }
 
 // Who is caught where all extensions behind stem j, whose rosters are ro and rn, are taken together.
@@ -61,12 +60,12 @@ pub fn catch_together<'a>(
     rn: &'a [u64],
     each: &'a [u64],
     any: &'a [u64],
-) -> Caught
+) -> Option<Catch>
     requires { (Walkable x.now c × AtStem x.now c j ro.now rn.now) × Gathered x.now c each.now any.now }
     ensures { result ≡ caught_together x.now c j ro.now rn.now each.now any.now }
 {
-    let o = gathering::own_or_all(stems::is_firm(stems::in_old(x, j)), ro, each);
-    let n = gathering::own_or_all(stems::is_firm(stems::in_new(x, j)), rn, any);
+    let o = gathering::own_or_all(stems::is_firm(stems::best(x, Side::Old, j)), ro, each);
+    let n = gathering::own_or_all(stems::is_firm(stems::best(x, Side::New, j)), rn, any);
     judging::judge(o, n, &x[scratch::METHODS..scratch::IN_OLD], c.methods)
 }
 
@@ -79,25 +78,27 @@ pub fn try_stem<'a>(
     rn: &'a [u64],
     each: &'a [u64],
     any: &'a [u64],
-) -> Hit
+) -> Option<Hit>
     requires { ((Walkable x.now c × AtStem x.now c j ro.now rn.now) × Gathered x.now c each.now any.now) × (eqb (sort_at x.now j) 0 ≡ false) }
     ensures { result ≡ stem_hit x.now c j }
 {
-    match judging::judge(ro, rn, &x[scratch::METHODS..scratch::IN_OLD], c.methods) {
-        Caught::At(m, d) => return Hit::At(j, 0, m, d),
-        Caught::Nothing => {}
+    let pairs = &x[scratch::METHODS..scratch::IN_OLD];
+    if let Some(caught) = judging::judge(ro, rn, pairs, c.methods) {
+        return Some(Hit {
+            stem: j,
+            ending: None,
+            caught,
+        });
     }
     if !stems::is_of_sort(x, j, 2) {
-        return Hit::Nothing;
+        return None;
     }
-    match catch_together(x, c, j, ro, rn, each, any) {
-        Caught::Nothing => Hit::Nothing,
-        Caught::At(_, _) => go_behind(x, c, j),
-    }
+    catch_together(x, c, j, ro, rn, each, any)?;
+    go_behind(x, c, j)
 }
 
 // Stem after stem. The rosters are kept over the turns, since many stems have one best line.
-pub fn walk_with<'a>(x: &[u32], c: Counts, each: &'a [u64], any: &'a [u64]) -> Hit
+pub fn walk_with<'a>(x: &[u32], c: Counts, each: &'a [u64], any: &'a [u64]) -> Option<Hit>
     requires { Walkable x.now c × Gathered x.now c each.now any.now }
     ensures { result ≡ walked x.now c }
 {
@@ -106,27 +107,21 @@ pub fn walk_with<'a>(x: &[u32], c: Counts, each: &'a [u64], any: &'a [u64]) -> H
     let mut rn = [rosters::EVERYONE; 32];
     let mut lo = 0;
     let mut ln = 0;
-    let mut j = 0;
-    while j < count {
-        let next = j + 1;
+    for j in 0..count {
         if stems::is_of_sort(x, j, 0) {
-            j = next;
-        } else {
-            lo = stems::refresh_old(x, c, lo, j, &mut ro);
-            ln = stems::refresh_new(x, c, ln, j, &mut rn);
-            match try_stem(x, c, j, &ro, &rn, each, any) {
-                Hit::At(i, e, m, d) => return Hit::At(i, e, m, d),
-                Hit::Nothing => {
-                    j = next;
-                }
-            }
+            continue;
+        }
+        lo = stems::refresh(x, c, Side::Old, lo, j, &mut ro);
+        ln = stems::refresh(x, c, Side::New, ln, j, &mut rn);
+        if let Some(hit) = try_stem(x, c, j, &ro, &rn, each, any) {
+            return Some(hit);
         }
     }
-    Hit::Nothing
+    None
 }
 
 // The first request that new grants and old does not.
-pub fn walk(x: &[u32], c: Counts) -> Hit
+pub fn walk(x: &[u32], c: Counts) -> Option<Hit>
     requires { Walkable x.now c }
     ensures { result ≡ walked x.now c }
 {

@@ -19,9 +19,5 @@ pub fn zero_first(w: &mut [u32], n: usize)
     requires { n ≤ length w.old }
     ensures { w.new ≡ zeroed n w.old }
 {
-    let mut i = 0;
-    while i < n {
-        w[i] = 0;
-        i += 1;
-    }
+    w[..n].fill(0);
 }

@@ -6,7 +6,7 @@ use native.Mathlib.Nat.{add-zero, zero-add}
 use native.Mathlib.Numerals.{add-one}
 use native.Mathlib.Omega.{arith}
 use lib.ListN.{length, take, drop, get_or, set, length-append}
-use lib.Seq.{sets, sets-eq, set_out, take-suc, take_all, length-take-le}
+use lib.Seq.{sets, sets-eq, set_out, take-suc, length-take-le}
 use Rattle.text.specs.Texts.{Text}
 use Rattle.writing.specs.Decimals.{digits}
 use Rattle.writing.proofs.Decimals.{one_digit, more_digits}
@@ -41,7 +41,7 @@ sets_length (x ∷ f) b at = sets_length f (set b at x) (suc at) ∙ set_length 
     set_length (y ∷ ys) zero x = refl
     set_length (y ∷ ys) (suc at) x = ap suc (set_length ys at x)
 
--- ---- put: a turn, and the end
+-- ---- put: a turn
 pub put_step : (b d d₁ t : Text) (at i : ℕ) → d ≡ sets b at (take i t) → i < length t → d₁ ≡ set d (at + i) (get_or t i 0) → d₁ ≡ sets b at (take (i + 1) t)
 put_step b d d₁ t at i v h q =
     let l : length (take i t) ≡ i = length-take-le i t (omega arith) in
@@ -49,9 +49,6 @@ put_step b d d₁ t at i v h q =
     ∙ ap (λ (k : ℕ). set (sets b at (take i t)) (at + k) (get_or t i 0)) (sym l)
     ∙ sets_append (take i t) (get_or t i 0 ∷ []) b at
     ∙ ap (sets b at) (sym (take-suc t i 0 h) ∙ ap (λ (k : ℕ). take k t) (sym (add-one i)))
-
-pub put_all : (b d t : Text) (at i : ℕ) → d ≡ sets b at (take i t) → length t ≤ i → d ≡ sets b at t
-put_all b d t at i v h = v ∙ ap (sets b at) (take_all i t h)
 
 -- ---- the digits of a number
 module _ (out : Text) (at n k : ℕ) where

@@ -21,13 +21,10 @@ pub fn put(out: &mut [u8], at: usize, t: &[u8]) -> usize
     ensures offset { result ≡ at + length t.now }
     ensures bytes { out.new ≡ sets out.old at t.now }
 {
-    let n = t.len();
-    let mut i = 0;
-    while i < n {
-        store(out, at + i, t[i]);
-        i += 1;
+    for (i, b) in t.iter().enumerate() {
+        store(out, at + i, *b);
     }
-    at + n
+    at + t.len()
 }
 
 // The last k decimal digits of n, from an offset on; the offset behind them.

@@ -3,19 +3,12 @@ use borrow.Author.Rules.{rules}
 use Rattle.names.proofs.Namings.{tests}
 use Rattle.decisions.specs.Requests.{is_path}
 use Rattle.matching.proofs.is_path.Goals as goal
+use Rattle.matching.proofs.is_path.Goals.{then-contains, else-contains}
 
-pub returns-then-p-lt1 : goal.returns-then-p-lt1
+pub returns-then-all_text : goal.returns-then-all_text
 unfolding is_path
-returns-then-p-lt1 c = search (rules, tests)
+returns-then-all_text c = elim c.if-contains.branch [ then-contains w ↦ search (rules, tests) | else-contains w ↦ search rules ]
 
-pub returns-then-p-gt1024 : goal.returns-then-p-gt1024
+pub returns-else-all_text : goal.returns-else-all_text
 unfolding is_path
-returns-then-p-gt1024 c = search (rules, tests)
-
-pub returns-then-not-all_text : goal.returns-then-not-all_text
-unfolding is_path
-returns-then-not-all_text c = search (rules, tests)
-
-pub returns : goal.returns
-unfolding is_path
-returns c = search (rules, tests)
+returns-else-all_text c = elim c.if-contains.branch [ then-contains w ↦ search (rules, tests) | else-contains w ↦ search (rules, tests) ]

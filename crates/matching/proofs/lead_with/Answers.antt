@@ -3,8 +3,8 @@ use borrow.Author.Rules.{rules}
 use Rattle.matching.proofs.Matchings.{lead_taken, lead_kept}
 use Rattle.matching.proofs.lead_with.Goals as goal
 
-pub returns-then-most-strength : goal.returns-then-most-strength
-returns-then-most-strength c = search (rules, lead_taken)
+pub returns-then-x-strength : goal.returns-then-x-strength
+returns-then-x-strength c = search (rules, lead_taken)
 
 pub returns : goal.returns
 returns c = search (rules, lead_kept)

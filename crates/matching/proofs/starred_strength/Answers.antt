@@ -1,28 +1,22 @@
 -- `matching::starred_strength` meets its contract, test by test.
 use borrow.Author.Rules.{rules}
-use borrow.Author.Tests.{not-false}
 use Rattle.text.proofs.Truths.{ladder}
-use Rattle.names.proofs.Namings.{starred_long}
-use Rattle.matching.proofs.Matchings.{starred_is}
+use Rattle.matching.proofs.Matchings.{starred_plain, starred_other, starred_is}
 use Rattle.matching.proofs.starred_strength.Goals as goal
+use Rattle.matching.proofs.starred_strength.Goals.{else-are_same-via-then-are_same+else-is_extension, else-are_same-via-else-are_same}
 
-pub returns-then-not-some : goal.returns-then-not-some
-returns-then-not-some c = search (rules, ladder, starred_is)
+pub returns-in_default : goal.returns-in_default
+returns-in_default c = search (rules, starred_plain)
 
-pub returns-then-not-starts_with : goal.returns-then-not-starts_with
-returns-then-not-starts_with c = search (rules, ladder, starred_is)
-
-pub slice_bounds-e-count : goal.slice_bounds-e-count
-slice_bounds-e-count c = search (rules, starred_long, not-false)
-
-pub slice_bounds-e-start : goal.slice_bounds-e-start
-slice_bounds-e-start c = search (rules, starred_long, not-false)
-
-pub returns-then-not-are_same : goal.returns-then-not-are_same
-returns-then-not-are_same c = search (rules, ladder, starred_is)
+pub returns-in_default-strip_prefix : goal.returns-in_default-strip_prefix
+returns-in_default-strip_prefix c = search (rules, starred_other)
 
 pub returns-then-is_extension : goal.returns-then-is_extension
-returns-then-is_extension c = search (rules, ladder, starred_is)
+returns-then-is_extension c = starred_is _ _ _ _ _ _ c.requires c.in-Some.is c.in-Some-strip_prefix.ensures.cases.0 c.in-Some-strip_prefix.ensures.cases.1 (search (rules, ladder))
 
 pub returns : goal.returns
-returns c = search (rules, ladder, starred_is)
+returns c =
+    elim c.else-are_same.branch [
+      | else-are_same-via-then-are_same+else-is_extension w ↦ starred_is _ _ _ _ _ _ c.requires c.in-Some.is c.in-Some-strip_prefix.ensures.cases.0 c.in-Some-strip_prefix.ensures.cases.1 (search (rules, ladder))
+      | else-are_same-via-else-are_same w ↦ starred_is _ _ _ _ _ _ c.requires c.in-Some.is c.in-Some-strip_prefix.ensures.cases.0 c.in-Some-strip_prefix.ensures.cases.1 (search (rules, ladder))
+    ]

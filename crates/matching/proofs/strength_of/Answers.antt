@@ -7,8 +7,8 @@ use Rattle.matching.proofs.strength_of.Goals as goal
 pub returns-then-are_same : goal.returns-then-are_same
 returns-then-are_same c = search (rules, ladder, strength_is)
 
-pub returns-then-t-eq0 : goal.returns-then-t-eq0
-returns-then-t-eq0 c = search (rules, ladder, strength_is)
+pub returns-else-are_same : goal.returns-else-are_same
+returns-else-are_same c = search (rules, ladder, strength_is)
 
 pub returns-then-are_same-2 : goal.returns-then-are_same-2
 returns-then-are_same-2 c = search (rules, ladder, strength_is)

@@ -8,6 +8,6 @@ pub returns-then-are_same : goal.returns-then-are_same
 unfolding is_constraint_kind
 returns-then-are_same c = search (rules, tests)
 
-pub returns : goal.returns
+pub returns-else-are_same : goal.returns-else-are_same
 unfolding is_constraint_kind
-returns c = search (rules, tests)
+returns-else-are_same c = search (rules, tests)

@@ -3,23 +3,29 @@ use borrow.Author.Rules.{rules}
 use Rattle.names.specs.Names.{is_name}
 use Rattle.names.proofs.Namings.{tests}
 use Rattle.names.proofs.is_name.Goals as goal
+use Rattle.names.proofs.is_name.Goals.{then-contains, else-contains, then-clean, else-clean}
 
-pub returns-then-t-lt1 : goal.returns-then-t-lt1
+pub returns-then-not-starts_with : goal.returns-then-not-starts_with
 unfolding is_name
-returns-then-t-lt1 c = search (rules, tests)
+returns-then-not-starts_with c =
+    elim c.if-clean.branch [
+      then-clean u ↦ elim c.if-contains.branch [
+        then-contains v ↦ search (rules, tests)
+        | else-contains v ↦ search rules
+      ]
+      | else-clean u ↦ search rules
+    ]
 
-pub returns-then-t-gt64 : goal.returns-then-t-gt64
+pub returns-else-not-starts_with : goal.returns-else-not-starts_with
 unfolding is_name
-returns-then-t-gt64 c = search (rules, tests)
-
-pub returns-then-not-clean : goal.returns-then-not-clean
-unfolding is_name
-returns-then-not-clean c = search (rules, tests)
-
-pub returns-then-starts_with : goal.returns-then-starts_with
-unfolding is_name
-returns-then-starts_with c = search (rules, tests)
-
-pub returns : goal.returns
-unfolding is_name
-returns c = search (rules, tests)
+returns-else-not-starts_with c =
+    elim c.if-clean.branch [
+      then-clean u ↦ elim c.if-contains.branch [
+        then-contains v ↦ search (rules, tests)
+        | else-contains v ↦ search (rules, tests)
+      ]
+      | else-clean u ↦ elim c.if-contains.branch [
+        then-contains v ↦ search (rules, tests)
+        | else-contains v ↦ search (rules, tests)
+      ]
+    ]

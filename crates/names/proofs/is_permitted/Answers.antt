@@ -1,23 +1,20 @@
 -- `names::is_permitted` meets its contract: what the kinds of pattern permit is an alternative, taken test by test.
 use borrow.Author.Rules.{rules}
-use borrow.Author.Tests.{not-false}
 use Rattle.names.proofs.Namings.{tests, starred_long, is_permitted_lem, extension_behind}
 use Rattle.names.proofs.is_permitted.Goals as goal
-
-pub returns-then-t-eq0 : goal.returns-then-t-eq0
-returns-then-t-eq0 c = search (rules, is_permitted_lem, tests)
+use Rattle.names.proofs.is_permitted.Goals.{then-is_empty, else-is_empty}
 
 pub returns-then-starts_with : goal.returns-then-starts_with
-returns-then-starts_with c = search (rules, is_permitted_lem, tests)
-
-pub returns-then-not-starts_with : goal.returns-then-not-starts_with
-returns-then-not-starts_with c = search (rules, is_permitted_lem, tests)
+returns-then-starts_with c = elim c.if-is_empty.branch [ then-is_empty w ↦ search (rules, is_permitted_lem, tests) | else-is_empty w ↦ search (rules, is_permitted_lem, tests) ]
 
 pub slice_bounds-is_extension-count : goal.slice_bounds-is_extension-count
-slice_bounds-is_extension-count c = search (rules, starred_long, not-false)
+slice_bounds-is_extension-count c = search (rules, starred_long)
 
 pub slice_bounds-is_extension-start : goal.slice_bounds-is_extension-start
-slice_bounds-is_extension-start c = search (rules, starred_long, not-false)
+slice_bounds-is_extension-start c = search (rules, starred_long)
 
-pub returns : goal.returns
-returns c = search (rules, is_permitted_lem, extension_behind, tests)
+pub returns-then-starts_with-2 : goal.returns-then-starts_with-2
+returns-then-starts_with-2 c = elim c.if-is_empty.branch [ then-is_empty w ↦ search rules | else-is_empty w ↦ search (rules, is_permitted_lem, extension_behind, tests) ]
+
+pub returns-else-starts_with-2 : goal.returns-else-starts_with-2
+returns-else-starts_with-2 c = elim c.if-is_empty.branch [ then-is_empty w ↦ search rules | else-is_empty w ↦ search (rules, is_permitted_lem, tests) ]

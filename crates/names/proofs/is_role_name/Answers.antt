@@ -4,10 +4,10 @@ use Rattle.names.specs.Names.{is_role_name}
 use Rattle.names.proofs.Namings.{tests}
 use Rattle.names.proofs.is_role_name.Goals as goal
 
-pub returns-then-not-is_name : goal.returns-then-not-is_name
+pub returns-then-is_name : goal.returns-then-is_name
 unfolding is_role_name
-returns-then-not-is_name c = search (rules, tests)
+returns-then-is_name c = search (rules, tests)
 
-pub returns : goal.returns
+pub returns-else-is_name : goal.returns-else-is_name
 unfolding is_role_name
-returns c = search (rules, tests)
+returns-else-is_name c = search (rules, tests)

@@ -3,8 +3,8 @@ use borrow.Author.Rules.{rules}
 use Rattle.deciding.proofs.Calls.{method_near, open_answer, leader_near, joined_answer_lem}
 use Rattle.deciding.proofs.decider.answer_at.Goals as goal
 
-pub returns-then-most-eq0 : goal.returns-then-most-eq0
-returns-then-most-eq0 c = search (rules, open_answer)
+pub returns-then-best-eq0 : goal.returns-then-best-eq0
+returns-then-best-eq0 c = search (rules, open_answer)
 
 pub pattern-requires : goal.pattern-requires
 pattern-requires c = search (rules, leader_near)

@@ -9,11 +9,11 @@ returns-then-not-is_path c = search (rules, path_refused)
 pub returns-then-not-is_method_name : goal.returns-then-not-is_method_name
 returns-then-not-is_method_name c = search (rules, method_refused)
 
-pub answer_for-a-requires : goal.answer_for-a-requires
-answer_for-a-requires c = (search rules, search (rules, path_good))
+pub answer_for-requires : goal.answer_for-requires
+answer_for-requires c = search (rules, path_good)
 
-pub returns-in-Bad : goal.returns-in-Bad
-returns-in-Bad c = search (rules, caller_refused)
+pub returns-in_default : goal.returns-in_default
+returns-in_default c = search (rules, caller_refused)
 
-pub returns-in-Good : goal.returns-in-Good
-returns-in-Good c = search (rules, request_answered)
+pub returns : goal.returns
+returns c = search (rules, request_answered)

@@ -1,13 +1,16 @@
 -- `decider::decide_loaded` meets its contract: by what reading answered.
 use borrow.Author.Rules.{rules}
-use Rattle.deciding.proofs.Calls.{loaded_holds, loaded_decided, loaded_refused}
+use Rattle.deciding.proofs.Calls.{loaded_holds, loaded_viewed, loaded_decided, loaded_refused}
 use Rattle.deciding.proofs.decider.decide_loaded.Goals as goal
 
+pub new-requires : goal.new-requires
+new-requires c = search (rules, loaded_holds)
+
 pub decide_held-requires : goal.decide_held-requires
-decide_held-requires c = search (rules, loaded_holds)
+decide_held-requires c = search (rules, loaded_viewed)
 
-pub returns-in-Not : goal.returns-in-Not
-returns-in-Not c = search (rules, loaded_refused)
+pub returns-in-Err : goal.returns-in-Err
+returns-in-Err c = search (rules, loaded_refused)
 
-pub returns-in-Whole : goal.returns-in-Whole
-returns-in-Whole c = search (rules, loaded_decided)
+pub returns-in-Ok : goal.returns-in-Ok
+returns-in-Ok c = search (rules, loaded_decided)

@@ -8,4 +8,4 @@ unfolding garbage
 loop-i-init c = search rules
 
 pub loop-i-preserved : goal.loop-i-preserved
-loop-i-preserved c = (search rules, search (rules, fill_step))
+loop-i-preserved c = search (rules, fill_step)

@@ -1,15 +1,9 @@
-use Rattle.std.proofs.Common.{ℕ, rules, refl}
-use Rattle.edges.proofs.Numbers.{agrees_differs, agrees_step, agrees_end}
+-- The library asks each number.
+use Rattle.std.proofs.Common.{rules, eqb}
+use Rattle.std.proofs.lemmas.List.Recursion.{and_is}
+use Rattle.edges.specs.Garbage.{is_zero}
+use Rattle.edges.proofs.Numbers.{agrees_none, agrees_first}
 use Rattle.edges.proofs.work.is_zero.Goals as goal
 
-abbrev zero_at : ℕ → ℕ
-zero_at i = 0
-
-pub returns-then-w-i-ne0 : goal.returns-then-w-i-ne0
-returns-then-w-i-ne0 c = agrees_differs zero_at _ _ _ c.loop-i.invariant 0 (search rules) c.if-w-i-ne0.true refl
-
-pub loop-i-preserved : goal.loop-i-preserved
-loop-i-preserved c = search (rules, agrees_step zero_at)
-
 pub returns : goal.returns
-returns c = search (rules, agrees_end zero_at)
+returns c = and_is is_zero (λ x. eqb x 0) (agrees_none 0) (agrees_first 0) c.args.w.now 0 _ (search rules) (search rules)

@@ -1,6 +1,6 @@
 -- `steps::field` meets its contract: by what the step of each kind ensures.
 use borrow.Author.Rules.{rules}
-use Rattle.entries.proofs.Effects.{field_role, field_constraint, field_allow, field_collection, field_pattern, field_method, field_omit, field_end}
+use Rattle.entries.proofs.Effects.{field_role, field_constraint, field_allow, field_collection, field_pattern, field_line, field_end}
 use Rattle.entries.proofs.steps.field.Goals as goal
 
 pub returns-in-Role : goal.returns-in-Role
@@ -18,11 +18,8 @@ returns-in-Collection c = search (rules, field_collection)
 pub returns-in-Pattern : goal.returns-in-Pattern
 returns-in-Pattern c = search (rules, field_pattern)
 
-pub returns-in-Method : goal.returns-in-Method
-returns-in-Method c = search (rules, field_method)
-
-pub returns-in-Omit : goal.returns-in-Omit
-returns-in-Omit c = search (rules, field_omit)
-
 pub returns-in-End : goal.returns-in-End
 returns-in-End c = search (rules, field_end)
+
+pub returns-in-Method : goal.returns-in-Method
+returns-in-Method c = field_line _ _ _ _ _ _ _ _ _ c.in-Method.is (λ z. rw z at c.eq.ensures) (λ z. rw z at c.eq.ensures) c.method.ensures

@@ -1,19 +1,19 @@
 -- `steps::method` meets its contract: a law of Effects for each return.
 use borrow.Author.Rules.{rules}
-use Rattle.entries.proofs.Effects.{line_bad, lines_past, method_known, methods_past, method_new}
+use Rattle.entries.proofs.Effects.{line_bad, lines_past, line_known, methods_past, line_new}
 use Rattle.entries.proofs.steps.method.Goals as goal
 
 pub returns-then-not-is_method_name : goal.returns-then-not-is_method_name
 returns-then-not-is_method_name c = search (rules, line_bad)
 
-pub returns-then-most-lines : goal.returns-then-most-lines
-returns-then-most-lines c = search (rules, lines_past)
+pub returns-then-most-t : goal.returns-then-most-t
+returns-then-most-t c = search (rules, lines_past)
 
 pub returns-then-i-n : goal.returns-then-i-n
-returns-then-i-n c = search (rules, method_known)
+returns-then-i-n c = search (rules, line_known)
 
 pub returns-then-most-n : goal.returns-then-most-n
 returns-then-most-n c = search (rules, methods_past)
 
 pub returns : goal.returns
-returns c = search (rules, method_new, c.requires)
+returns c = search (rules, line_new, c.requires)

@@ -1,6 +1,6 @@
 -- `tables::index` meets its contract: the loop leaves off the texts that it has passed.
 use mathlib.Core.Path.{◌≡◌}
-use Prim.Native.Nat.{◌+◌, ◌-◌}
+use Prim.Native.Nat.{◌+◌}
 use lib.ListN.{drop}
 use Rattle.text.specs.Texts.{index_of}
 use Rattle.entries.specs.Tables.{texts_at, region}
@@ -8,6 +8,3 @@ use Rattle.entries.proofs.tables.index.Given as goal
 
 abbrev pub invariant-loop-k : goal.invariant-loop-k
 invariant-loop-k l = index_of l.t (texts_at l.s (region l.w l.base l.n)) ≡ l.k + index_of l.t (drop l.k (texts_at l.s (region l.w l.base l.n)))
-
-abbrev pub decreases-loop-k : goal.decreases-loop-k
-decreases-loop-k l = l.n - l.k

@@ -3,14 +3,8 @@ use borrow.Author.Rules.{rules}
 use Rattle.fillers.proofs.Marking.{digit_unmarked, digit_marked}
 use Rattle.fillers.proofs.finding.first_unmarked.Goals as goal
 
-pub loop-n-init : goal.loop-n-init
-loop-n-init c = (search rules, λ i h. absurd (search rules))
-
 pub returns-then-marks-n-eq0-clause-here : goal.returns-then-marks-n-eq0-clause-here
 returns-then-marks-n-eq0-clause-here c = (λ h. search (rules, digit_unmarked), search rules)
 
 pub loop-n-preserved : goal.loop-n-preserved
-loop-n-preserved c = (search rules, below_more _ _ (search rules) (search (rules, digit_marked)))
-
-pub returns-clause-here : goal.returns-clause-here
-returns-clause-here c = (λ h. absurd (search rules), search rules)
+loop-n-preserved c = below_more _ _ (search rules) (search (rules, digit_marked))

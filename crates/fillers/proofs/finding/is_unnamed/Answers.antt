@@ -8,8 +8,8 @@ use Rattle.fillers.proofs.finding.is_unnamed.Goals as goal
 pub slice_bounds-method_index-end : goal.slice_bounds-method_index-end
 slice_bounds-method_index-end c = let h = c.put_name-size.ensures in lent_length _ _ (omega (arith, h.size, h.kept))
 
-pub returns-then-i-method_count : goal.returns-then-i-method_count
-returns-then-i-method_count c = search (rules, named_first)
+pub returns-then-method_index-method_count : goal.returns-then-method_index-method_count
+returns-then-method_index-method_count c = search (rules, named_first)
 
 pub slice_bounds-method_index-end-2 : goal.slice_bounds-method_index-end-2
 slice_bounds-method_index-end-2 c = let h = c.put_name-size.ensures in lent_length _ _ (omega (arith, h.size, h.kept))

@@ -3,14 +3,11 @@ use borrow.Author.Rules.{rules}
 use Rattle.firsts.proofs.Sharings.{line_new, line_within, line_old}
 use Rattle.firsts.proofs.lines.line_text.Goals as goal
 
-pub pattern-requires : goal.pattern-requires
-pattern-requires c = (search rules, search rules)
-
 pub returns-then-j-n : goal.returns-then-j-n
 returns-then-j-n c = search (rules, line_new)
 
 pub pattern-requires-2 : goal.pattern-requires-2
-pattern-requires-2 c = (search rules, search (rules, line_within))
+pattern-requires-2 c = search (rules, line_within)
 
 pub returns : goal.returns
 returns c = search (rules, line_old)

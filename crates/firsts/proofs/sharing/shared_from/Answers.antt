@@ -1,9 +1,6 @@
 use borrow.Author.Rules.{rules}
-use Rattle.firsts.proofs.Sharings.{share_ends, share_short, share_differs, share_goes}
+use Rattle.firsts.proofs.Sharings.{share_ends, share_differs, share_goes}
 use Rattle.firsts.proofs.sharing.shared_from.Goals as goal
-
-pub returns-then-u-i : goal.returns-then-u-i
-returns-then-u-i c = search (rules, share_short)
 
 pub returns-then-t-i : goal.returns-then-t-i
 returns-then-t-i c = search (rules, share_differs)

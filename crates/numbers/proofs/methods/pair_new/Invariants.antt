@@ -1,10 +1,6 @@
 -- `methods::pair_new` meets its contract: one method of new more at each turn.
-use Prim.Native.Nat.{◌-◌}
 use Rattle.numbers.proofs.PairsPut.{PairingNew}
 use Rattle.numbers.proofs.methods.pair_new.Given as goal
 
 abbrev pub invariant-loop-i : goal.invariant-loop-i
 invariant-loop-i l = PairingNew l.old l.new l.pair l.at l.n l.i l.initial.w l.w
-
-abbrev pub decreases-loop-i : goal.decreases-loop-i
-decreases-loop-i l = l.n - l.i

@@ -7,8 +7,8 @@ use Rattle.matching.proofs.Matchings.{ended_long}
 use Rattle.numbers.proofs.Searchings.{lacks_ended, found_empty, found_prefix, found_exact, found_longer}
 use Rattle.numbers.proofs.searching.strongest_at.Goals as goal
 
-pub returns-then-text-eq0 : goal.returns-then-text-eq0
-returns-then-text-eq0 c = search (rules, found_empty)
+pub returns-then-is_empty : goal.returns-then-is_empty
+returns-then-is_empty c = search (rules, found_empty)
 
 pub overflow_sub-n : goal.overflow_sub-n
 overflow_sub-n c = search (rules, ended_long)

@@ -1,19 +1,7 @@
+-- `searching::strongest_below` meets its contract: the texts of a view are short.
 use borrow.Author.Rules.{rules}
-use Rattle.deciding.proofs.Shorts.{lead_few, lead_short}
-use Rattle.numbers.proofs.Searchings.{by_none, by_step, by_all, by_count}
+use Rattle.deciding.proofs.Shorts.{lead_short}
 use Rattle.numbers.proofs.searching.strongest_below.Goals as goal
 
-pub loop-k-init : goal.loop-k-init
-loop-k-init c = (search (rules, by_none), search rules)
-
-pub below_strength-requires : goal.below_strength-requires
-below_strength-requires c = search (rules, lead_short)
-
-pub lead_by-x-requires : goal.lead_by-x-requires
-lead_by-x-requires c = search (rules, lead_few)
-
-pub loop-k-preserved : goal.loop-k-preserved
-loop-k-preserved c = (search (rules, by_step), search (rules, by_count))
-
-pub returns : goal.returns
-returns c = search (rules, by_all)
+pub strongest_by-requires-clause-calls : goal.strongest_by-requires-clause-calls
+strongest_by-requires-clause-calls c = λ u k h e. search (rules, lead_short)

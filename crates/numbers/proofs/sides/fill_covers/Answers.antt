@@ -1,16 +1,14 @@
-use borrow.Author.Rules.{rules}
+-- `sides::fill_covers` meets its contract: each line's cover is that of the view that was held first.
+use Rattle.std.proofs.Common.{rules}
 use Rattle.reading.specs.Views.{cover_at}
-use Rattle.numbers.proofs.Writings.{write_start, line_there, write_more, write_all}
+use Rattle.numbers.specs.Writes.{view_from}
+use Rattle.numbers.proofs.Writings.{line_held, line_same, lines_all}
 use Rattle.numbers.proofs.sides.fill_covers.Goals as goal
 
-pub loop-k-init : goal.loop-k-init
-loop-k-init c = search (rules, write_start)
-
-pub cover-v-requires : goal.cover-v-requires
-cover-v-requires c = (search rules, search (rules, line_there))
-
-pub loop-k-preserved : goal.loop-k-preserved
-loop-k-preserved c = search (rules, write_more)
+pub fill_each-requires-clause-calls : goal.fill_each-requires-clause-calls
+fill_each-requires-clause-calls c = λ u k h K. line_held _ _ _ _ _ c.requires _ k _ c.pattern_count-n.ensures h K
 
 pub returns : goal.returns
-returns c = write_all _ _ _ _ _ cover_at _ _ _ c.loop-k.invariant c.loop-k-test.false
+returns c =
+    lines_all _ _ _ _ _ c.requires cover_at _ _ c.pattern_count-n.ensures
+    (c.fill_each.ensures _ (λ u k r h K e. line_same _ _ _ _ _ c.requires cover_at _ k r _ K e))

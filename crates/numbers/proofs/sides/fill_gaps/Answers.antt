@@ -1,20 +1,14 @@
-use borrow.Author.Rules.{rules}
+-- `sides::fill_gaps` meets its contract: each line's gap is that in the view that was held first.
+use Rattle.std.proofs.Common.{rules}
 use Rattle.grants.specs.Sides.{gap_at}
-use Rattle.numbers.proofs.Writings.{write_start, write_more, write_all}
-use Rattle.numbers.proofs.SideLines.{gap_small, gap_lent}
+use Rattle.numbers.proofs.Writings.{line_same, lines_all}
+use Rattle.numbers.proofs.SideLines.{gap_lent}
 use Rattle.numbers.proofs.sides.fill_gaps.Goals as goal
 
-pub loop-k-init : goal.loop-k-init
-loop-k-init c = search (rules, write_start)
-
-pub gap-v-requires : goal.gap-v-requires
-gap-v-requires c = search (rules, gap_lent)
-
-pub overflow_cast-w : goal.overflow_cast-w
-overflow_cast-w c = search (rules, gap_small)
-
-pub loop-k-preserved : goal.loop-k-preserved
-loop-k-preserved c = search (rules, write_more)
+pub fill_each-requires-clause-calls : goal.fill_each-requires-clause-calls
+fill_each-requires-clause-calls c = λ u k h K. gap_lent _ _ _ _ _ _ k _ _ c.requires c.pattern_count-n.ensures h K
 
 pub returns : goal.returns
-returns c = write_all _ _ _ _ _ gap_at _ _ _ c.loop-k.invariant c.loop-k-test.false
+returns c =
+    lines_all _ _ _ _ _ c.requires.lent gap_at _ _ c.pattern_count-n.ensures
+    (c.fill_each.ensures _ (λ u k r h K e. line_same _ _ _ _ _ c.requires.lent gap_at _ k r _ K e))

@@ -12,14 +12,14 @@ returns-then-not-is_firm c = search (rules, soft_is)
 pub own_best-requires : goal.own_best-requires
 own_best-requires c = search (rules, line_few)
 
-pub returns-then-k-n : goal.returns-then-k-n
-returns-then-k-n c = search (rules, own_is)
-
 pub strongest_at-requires : goal.strongest_at-requires
 strongest_at-requires c = (search (rules, own_none), search (rules, firm_text))
 
 pub best_number-requires : goal.best_number-requires
 best_number-requires c = search (rules, led_small)
 
-pub returns : goal.returns
-returns c = search (rules, searched)
+pub returns-in-Some : goal.returns-in-Some
+returns-in-Some c = search (rules, own_is)
+
+pub returns-in-None : goal.returns-in-None
+returns-in-None c = search (rules, searched)

@@ -10,6 +10,3 @@ stem_at-x-requires c = search (rules, stems_next)
 
 pub loop-j-preserved : goal.loop-j-preserved
 loop-j-preserved c = search (rules, stems_more)
-
-pub returns : goal.returns
-returns c = search (rules, stems_all)

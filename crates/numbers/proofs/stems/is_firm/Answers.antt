@@ -1,14 +1,13 @@
 -- `stems::is_firm` meets its contract, test by test.
 use borrow.Author.Rules.{rules}
-use Rattle.text.proofs.Truths.{ladder}
-use Rattle.numbers.proofs.Searchings.{firm_is}
+use Rattle.numbers.proofs.Searchings.{firm_empty, firm_default, firm_rooted}
 use Rattle.numbers.proofs.stems.is_firm.Goals as goal
 
-pub returns-then-text-eq0 : goal.returns-then-text-eq0
-returns-then-text-eq0 c = search (rules, ladder, firm_is)
+pub returns-then-is_empty : goal.returns-then-is_empty
+returns-then-is_empty c = search (rules, firm_empty)
 
-pub returns-then-are_same : goal.returns-then-are_same
-returns-then-are_same c = search (rules, ladder, firm_is)
+pub returns-then-not-are_same : goal.returns-then-not-are_same
+returns-then-not-are_same c = search (rules, firm_rooted)
 
-pub returns : goal.returns
-returns c = search (rules, ladder, firm_is)
+pub returns-else-not-are_same : goal.returns-else-not-are_same
+returns-else-not-are_same c = search (rules, firm_default)

@@ -1,17 +1,17 @@
--- `stems::soft_best` meets its contract, test by test.
+-- `stems::soft_best` meets its contract, case by case.
 use borrow.Author.Rules.{rules}
-use Rattle.text.proofs.Truths.{ladder}
-use Rattle.numbers.proofs.Stemmings.{soft_by}
+use Rattle.numbers.proofs.Stemmings.{soft_firm, soft_slash, soft_none, soft_some}
+use Rattle.numbers.proofs.stems.soft_best.Goals.{then-root-eq1-via-then-root-eq1, then-root-eq1-via-else-root-eq1+then-are_same}
 use Rattle.numbers.proofs.stems.soft_best.Goals as goal
 
 pub returns-then-root-eq1 : goal.returns-then-root-eq1
-returns-then-root-eq1 c = search (rules, ladder, soft_by)
+returns-then-root-eq1 c = elim c.then-root-eq1.branch [
+  | then-root-eq1-via-then-root-eq1 w ↦ soft_firm _ _ _ w.if-root-eq1.true
+  | then-root-eq1-via-else-root-eq1+then-are_same w ↦ soft_slash _ _ _ _ w.are_same.ensures w.if-are_same.true
+]
 
-pub returns-then-n-k : goal.returns-then-n-k
-returns-then-n-k c = search (rules, ladder, soft_by)
+pub returns-in-Some : goal.returns-in-Some
+returns-in-Some c = search (rules, soft_some)
 
-pub returns-then-are_same : goal.returns-then-are_same
-returns-then-are_same c = search (rules, ladder, soft_by)
-
-pub returns : goal.returns
-returns c = search (rules, ladder, soft_by)
+pub returns-in-None : goal.returns-in-None
+returns-in-None c = search (rules, soft_none)

@@ -6,8 +6,8 @@ use Rattle.numbers.proofs.stems.stem_at.Goals as goal
 pub bounds-firsts-j : goal.bounds-firsts-j
 bounds-firsts-j c = search (rules, stem_there)
 
-pub returns-then-wide-j : goal.returns-then-wide-j
-returns-then-wide-j c = search (rules, stem_again)
+pub returns-then-f-j : goal.returns-then-f-j
+returns-then-f-j c = search (rules, stem_again)
 
 pub spot_of-spot-requires : goal.spot_of-spot-requires
 spot_of-spot-requires c = search (rules, stem_spot)

@@ -1,3 +1,4 @@
+-- `reader::fill_lines` meets its contract: a law of Walks for each way through the loop.
 use borrow.Author.Rules.{rules}
 use Rattle.reading.proofs.Walks.{walk_starts, walk_bad, walk_closed, walk_on, walk_falls, walk_ends}
 use Rattle.reading.proofs.reader.fill_lines.Goals as goal
@@ -5,8 +6,8 @@ use Rattle.reading.proofs.reader.fill_lines.Goals as goal
 pub loop-c-init : goal.loop-c-init
 loop-c-init c = search (rules, walk_starts)
 
-pub returns-in-Bad : goal.returns-in-Bad
-returns-in-Bad c = search (rules, walk_bad)
+pub returns-in-Err : goal.returns-in-Err
+returns-in-Err c = search (rules, walk_bad)
 
 pub returns-in-Ended : goal.returns-in-Ended
 returns-in-Ended c = search (rules, walk_closed)

@@ -3,11 +3,11 @@ use borrow.Author.Rules.{rules}
 use Rattle.showing.proofs.Pieces.{no_ending_offset, no_ending_bytes, ending_there, ending_long, ending_short, ending_offset, ending_bytes, line_pattern}
 use Rattle.showing.proofs.hits.put_ending.Goals as goal
 
-pub returns-then-e-eq0-clause-offset : goal.returns-then-e-eq0-clause-offset
-returns-then-e-eq0-clause-offset c = search (rules, no_ending_offset)
+pub returns-in_default-clause-offset : goal.returns-in_default-clause-offset
+returns-in_default-clause-offset c = search (rules, no_ending_offset)
 
-pub returns-then-e-eq0-clause-bytes : goal.returns-then-e-eq0-clause-bytes
-returns-then-e-eq0-clause-bytes c = search (rules, no_ending_bytes)
+pub returns-in_default-clause-bytes : goal.returns-in_default-clause-bytes
+returns-in_default-clause-bytes c = search (rules, no_ending_bytes)
 
 pub line_text-text-requires : goal.line_text-text-requires
 line_text-text-requires c = (search rules, (search rules, search (rules, ending_there)))

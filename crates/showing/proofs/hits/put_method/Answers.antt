@@ -1,16 +1,8 @@
 -- `hits::put_method` meets its contract: new's name, old's, or the filler method.
 use borrow.Author.Rules.{rules}
-use Rattle.showing.proofs.Methods.{first_read, second_read, method_short, method_there, new_offset, new_bytes, old_offset, old_bytes, filler_offset, filler_bytes}
+use mathlib.Core.Path.{refl}
+use Rattle.showing.proofs.Methods.{method_short, new_offset, new_bytes, old_offset, old_bytes, filler_offset, filler_bytes}
 use Rattle.showing.proofs.hits.put_method.Goals as goal
-
-pub overflow_add-m : goal.overflow_add-m
-overflow_add-m c = search (rules, first_read)
-
-pub bounds-w-m : goal.bounds-w-m
-bounds-w-m c = search (rules, first_read)
-
-pub method-requires : goal.method-requires
-method-requires c = (search rules, search (rules, method_there))
 
 pub put-requires : goal.put-requires
 put-requires c = (search rules, search (rules, method_short))
@@ -20,15 +12,6 @@ returns-then-i-method_count-clause-offset c = search (rules, new_offset)
 
 pub returns-then-i-method_count-clause-bytes : goal.returns-then-i-method_count-clause-bytes
 returns-then-i-method_count-clause-bytes c = search (rules, new_bytes)
-
-pub overflow_add-m-2 : goal.overflow_add-m-2
-overflow_add-m-2 c = search (rules, second_read)
-
-pub bounds-w-m-2 : goal.bounds-w-m-2
-bounds-w-m-2 c = search (rules, second_read)
-
-pub method-requires-then-j-method_count : goal.method-requires-then-j-method_count
-method-requires-then-j-method_count c = (search rules, search (rules, method_there))
 
 pub put-requires-then-j-method_count : goal.put-requires-then-j-method_count
 put-requires-then-j-method_count c = (search rules, search (rules, method_short))
@@ -42,9 +25,9 @@ returns-then-j-method_count-clause-bytes c = search (rules, old_bytes)
 pub returns-clause-offset : goal.returns-clause-offset
 returns-clause-offset c =
     filler_offset _ _ _ _ c.requires.0 _ c.requires.1.0 _ _ _ _ _
-    c.wide-i.ensures c.method_count.ensures c.if-i-method_count.false c.wide-j.ensures c.method_count-2.ensures c.if-j-method_count.false c.method_number-n.ensures _ _ c.put_numbered.ensures.offset
+    refl c.method_count.ensures c.if-i-method_count.false refl c.method_count-2.ensures c.if-j-method_count.false c.method_number-n.ensures _ _ c.put_numbered.ensures.offset
 
 pub returns-clause-bytes : goal.returns-clause-bytes
 returns-clause-bytes c =
     filler_bytes _ _ _ _ c.requires.0 _ c.requires.1.0 _ _ _ _ _
-    c.wide-i.ensures c.method_count.ensures c.if-i-method_count.false c.wide-j.ensures c.method_count-2.ensures c.if-j-method_count.false c.method_number-n.ensures _ _ _ c.put_numbered.ensures.bytes
+    refl c.method_count.ensures c.if-i-method_count.false refl c.method_count-2.ensures c.if-j-method_count.false c.method_number-n.ensures _ _ _ c.put_numbered.ensures.bytes

@@ -1,10 +1,7 @@
--- `texts::ends_with` meets its contract: the ending is compared with as many last bytes.
+-- `texts::ends_with` meets its contract: the library compares the last elements.
 use borrow.Author.Rules.{rules}
-use Rattle.text.proofs.Spans.{ends_short, ends_is}
+use Rattle.text.proofs.Spans.{ends_pointwise}
 use Rattle.text.proofs.texts.ends_with.Goals as goal
 
-pub returns-then-t-e : goal.returns-then-t-e
-returns-then-t-e c = search (rules, ends_short)
-
 pub returns : goal.returns
-returns c = search (rules, ends_is)
+returns c = search (rules, ends_pointwise)

@@ -2,12 +2,6 @@ use borrow.Author.Rules.{rules}
 use Rattle.text.proofs.Spans.{none_all, scan_begin, scan_four}
 use Rattle.text.proofs.texts.past_text.Goals as goal
 
-pub returns-then-s-lt4-clause-begun : goal.returns-then-s-lt4-clause-begun
-returns-then-s-lt4-clause-begun c = search (rules, none_all)
-
-pub returns-then-s-lt4-clause-ahead : goal.returns-then-s-lt4-clause-ahead
-returns-then-s-lt4-clause-ahead c = search (rules, none_all)
-
 pub returns-then-s-lt4-clause-clean : goal.returns-then-s-lt4-clause-clean
 returns-then-s-lt4-clause-clean c = search (rules, none_all)
 

@@ -7,14 +7,14 @@ use Rattle.walks.proofs.walking.try_stem.Goals as goal
 pub judge-requires : goal.judge-requires
 judge-requires c = search (rules, stem_old_size, stem_new_size)
 
-pub returns-in-At : goal.returns-in-At
-returns-in-At c = search (rules, stem_found)
+pub returns-in-Some : goal.returns-in-Some
+returns-in-Some c = search (rules, stem_found)
 
 pub returns-then-not-is_of_sort : goal.returns-then-not-is_of_sort
 returns-then-not-is_of_sort c = search (rules, stem_alone, not-true)
 
-pub returns-in-Nothing-catch_together : goal.returns-in-Nothing-catch_together
-returns-in-Nothing-catch_together c = search (rules, stem_nothing, not-false)
+pub returns-in_err-catch_together : goal.returns-in_err-catch_together
+returns-in_err-catch_together c = search (rules, stem_nothing, not-false)
 
-pub returns-in-At-catch_together : goal.returns-in-At-catch_together
-returns-in-At-catch_together c = search (rules, stem_behind, not-false)
+pub returns : goal.returns
+returns c = search (rules, stem_behind, not-false)

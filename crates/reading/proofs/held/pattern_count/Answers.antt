@@ -1,7 +1,0 @@
--- `held::pattern_count` meets its contract: the counts give the number of patterns.
-use borrow.Author.Rules.{rules}
-use Rattle.reading.proofs.Holdings.{pattern_number}
-use Rattle.reading.proofs.held.pattern_count.Goals as goal
-
-pub returns : goal.returns
-returns c = search (rules, pattern_number)
