@@ -1,11 +1,12 @@
 -- What a reader of elements comes to in code: a fault and its place, or the place behind what was read, the phase there and the records in the work table.
 use Rattle.std.specs.Prelude.{Result, Ok, Err, ℕ, zero, suc, ◌+◌, ◌-◌, ◌≤◌, ◌≡◌, List, length, drop}
+use Rattle.std.specs.Result.{result_map_both}
 use Rattle.text.specs.Texts.{Text, part}
-use Rattle.documents.specs.Parts.{Got, got, fault, Reader, ◌>>=◌, ◌>>◌, return, Opened, order_mark, prolog, asides, ending}
+use Rattle.documents.specs.Parts.{Reader, ◌>>=◌, ◌>>◌, return, Opened, order_mark, prolog, asides, ending}
 use Rattle.listings.specs.declared.records.Kind.{Kind}
 use Rattle.markup.specs.declared.answers.Fault.{Fault as Blame}
 use Rattle.markup.specs.declared.answers.Start.{Start}
-use Rattle.markup.specs.Places.{cause_of, blame, Opening}
+use Rattle.markup.specs.Places.{read_as, place_of, Opening}
 use Rattle.portals.specs.Elements as Elements
 use Rattle.portals.specs.Elements.{Phase, Effect}
 use Rattle.portals.specs.Records.{record_of}
@@ -20,29 +21,29 @@ use Rattle.elements.specs.declared.rows.Effect.{Effect as Does}
 use Rattle.elements.specs.Rows.{phase_at, effect_at}
 
 -- ---- answers
--- the place behind what was read, and what was; or the fault with its place
-pub data Going (A : Type 0) : Type 0 where
-  went : ℕ → A → Going A
-  stopped : Blame → Going A
+-- what was read, and the place behind it
+pub record Stood (A : Type 0) : Type 0 where
+  pub value : A
+  pub next : ℕ
 
--- an answer, in a text of so many bytes
-abbrev pub going_of : {A : Type 0} → ℕ → Got A → Going A
-going_of l (got y r) = went (l - length r) y
-going_of l (fault e n) = stopped (blame (cause_of e) (l - n))
+abbrev pub stood : {A : Type 0} → A → ℕ → Stood A
+stood y n = record { value = y; next = n }
+
+-- that, or a fault
+abbrev pub Going : Type 0 → Type 0
+Going A = Result (Stood A) Blame
 
 -- what m reads from the place i of s on
-unfoldable pub read_on : {A : Type 0} → Reader A → Text → ℕ → Going A
-read_on m s i = going_of (length s) (m (drop i s))
+abbrev pub read_on : {A : Type 0} → Reader A → Text → ℕ → Going A
+read_on m s i = read_as stood m s i
 
 -- what the code hands back, with the value that was read
 abbrev pub shown_by : {A : Type 0} → Result ℕ Blame → A → Going A
-shown_by (Ok n) y = went n y
-shown_by (Err e) y = stopped e
+shown_by r y = result_map_both (stood y) (λ e. e) r
 
 -- the same of what is done at a place, where reading then goes on
 abbrev pub done_by : {A : Type 0} → Result (Unit {0}) Blame → ℕ → A → Going A
-done_by (Ok u) i y = went i y
-done_by (Err e) i y = stopped e
+done_by r i y = result_map_both (λ u. stood y i) (λ e. e) r
 
 -- how far reading has come: the phase, and what the table w keeps of the file s
 abbrev pub reached_at : Text → At → List ℕ → Reached Ledger
@@ -50,12 +51,10 @@ reached_at s phase w = reached (phase_at phase) (ledger_at s w)
 
 -- the same of what the code hands back of it
 abbrev pub came : Text → List ℕ → Result Went Blame → Going (Reached Ledger)
-came s w (Ok g) = went g.next (reached_at s g.phase w)
-came s w (Err e) = stopped e
+came s w r = result_map_both (λ g. stood (reached_at s g.phase w) g.next) (λ e. e) r
 
-abbrev pub place_come : Result Went Blame → ℕ
-place_come (Ok g) = g.next
-place_come (Err e) = e.at
+abbrev pub went_at : Result Went Blame → Result ℕ Blame
+went_at r = result_map_both (λ g. g.next) (λ e. e) r
 
 -- ---- what is known before, and what comes of it
 -- a content or an element is to be read from `at` on, in an element whose first tag stands at `here`
@@ -85,7 +84,7 @@ pub record Saying (s : Text) (at place next : ℕ) (item : Item) (t : Text) (w :
 -- it is read, and the phase, the place and the records are due
 pub record Gone (s : Text) (due : Going (Reached Ledger)) (r : Result Went Blame) (w : List ℕ) : Type 0 where
   pub answer : came s w r ≡ due
-  pub within : place_come r ≤ length s
+  pub within : place_of (went_at r) ≤ length s
   pub fits : Fits w
 
 -- what r hands back is what m reads from the place i on
@@ -134,12 +133,19 @@ leading = order_mark >> prolog >> asides
 abbrev pub trailing : Reader (Unit {0})
 trailing = asides >> ending
 
+-- a fault, if there is one, is put at p
+abbrev pub FaultsAt : ℕ → Result (Unit {0}) Blame → Type 0
+FaultsAt p (Ok u) = Unit {0}
+FaultsAt p (Err e) = e.at ≡ p
+
 -- the record of that kind whose text stands at `place` is given by the element whose first tag stands at `at`
 pub record Given (s : Text) (at place : ℕ) (item : Item) (w : List ℕ) (r : Result (Unit {0}) Blame) (w' : List ℕ) : Type 0 where
   pub answer : (i : ℕ) → i ≤ length s → done_by r i (ledger_at s w') ≡ read_on (adding ledgered (length s - at) (record_by s (number_of item) place) (ledger_at s w)) s i
+  pub faults : FaultsAt at r
   pub fits : Fits w'
 
 -- what the element whose first tag stands at `at` does where it begins is done
 pub record Done (s : Text) (at : ℕ) (effect : Does) (w : List ℕ) (r : Result (Unit {0}) Blame) (w' : List ℕ) : Type 0 where
   pub answer : (i : ℕ) → i ≤ length s → done_by r i (ledger_at s w') ≡ read_on (doing ledgered (length s - at) (effect_at effect) (ledger_at s w)) s i
+  pub faults : FaultsAt at r
   pub fits : Fits w'

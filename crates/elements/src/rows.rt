@@ -74,6 +74,7 @@ pub enum Opening {
 }
 
 // The sort of an element that is wanted nowhere: refused, or passed over.
+#[tactic(auto, using(text::proofs::Truths::ladder))]
 pub fn other_sort(n: &[u8]) -> Sort
     ensures { sort_at result ≡ refused_or n.now }
 {
@@ -87,6 +88,7 @@ pub fn other_sort(n: &[u8]) -> Sort
 }
 
 // The sort of an element that holds no others where it is wanted.
+#[tactic(auto, using(text::proofs::Truths::ladder))]
 pub fn text_sort(n: &[u8]) -> Sort
     ensures { sort_at result ≡ text_sort n.now }
 {
@@ -106,6 +108,7 @@ pub fn text_sort(n: &[u8]) -> Sort
 }
 
 // The sort of an element by its name.
+#[tactic(auto, using(text::proofs::Truths::ladder), unfolding(portals::specs::Elements::sort_of))]
 pub fn sort_of(n: &[u8]) -> Sort
     ensures { sort_at result ≡ sort_of n.now }
 {
@@ -125,6 +128,7 @@ pub fn sort_of(n: &[u8]) -> Sort
 }
 
 // What a first tag of that sort comes to at a phase.
+#[tactic(auto, using(crate::proofs::Tables::no_role, crate::proofs::Tables::no_constraint, crate::proofs::Tables::no_collection, crate::proofs::Tables::no_auth, crate::proofs::Tables::no_pattern, crate::proofs::Tables::no_method, crate::proofs::Tables::no_omission, crate::proofs::Tables::no_name), unfolding(portals::specs::Elements::opening, portals::specs::Elements::found))]
 pub fn row_of(phase: Phase, sort: Sort) -> Opening
     ensures is { opening_of result ≡ opening (phase_at phase) (sort_at sort) }
     ensures fitting { FittingRow result }
@@ -158,7 +162,8 @@ pub fn row_of(phase: Phase, sort: Sort) -> Opening
                 item: Item::Role,
             })
         }
-        (Phase::InConstraint | Phase::InCollected, Sort::WebResourceCollection) => {
+        (Phase::InConstraint, Sort::WebResourceCollection)
+        | (Phase::InCollected, Sort::WebResourceCollection) => {
             Opening::Holds(Holder {
                 next: Phase::InCollected,
                 first: Phase::InCollection,
@@ -172,19 +177,20 @@ pub fn row_of(phase: Phase, sort: Sort) -> Opening
                 effect: Effect::Guards,
             })
         }
-        (Phase::InCollection | Phase::InPatterned, Sort::UrlPattern) => {
+        (Phase::InCollection, Sort::UrlPattern) | (Phase::InPatterned, Sort::UrlPattern) => {
             Opening::Says(Leaf {
                 next: Phase::InPatterned,
                 item: Item::Pattern,
             })
         }
-        (Phase::InPatterned | Phase::InMethods, Sort::HttpMethod) => {
+        (Phase::InPatterned, Sort::HttpMethod) | (Phase::InMethods, Sort::HttpMethod) => {
             Opening::Says(Leaf {
                 next: Phase::InMethods,
                 item: Item::Method,
             })
         }
-        (Phase::InPatterned | Phase::InOmissions, Sort::HttpMethodOmission) => {
+        (Phase::InPatterned, Sort::HttpMethodOmission)
+        | (Phase::InOmissions, Sort::HttpMethodOmission) => {
             Opening::Says(Leaf {
                 next: Phase::InOmissions,
                 item: Item::Omit,
@@ -201,6 +207,7 @@ pub fn row_of(phase: Phase, sort: Sort) -> Opening
 }
 
 // Whether nothing is missing where an element ends at that phase.
+#[tactic(auto, using(crate::proofs::Tables::whole))]
 pub fn is_whole(phase: Phase) -> bool
     ensures { result ≡ is_complete (phase_at phase) }
 {

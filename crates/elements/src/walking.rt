@@ -22,10 +22,11 @@ pub fn stray(s: &[u8], at: usize, here: usize, phase: Phase) -> Result<usize, Fa
     ensures exact { Passes s.now phase (straying (length s.now - here)) at result }
 {
     let b = letters::letter(s, at, here)?;
-    if chars::is_white(b.byte) || matches!(phase, Phase::PassedOver) {
-        return Ok(b.next);
+    match phase {
+        Phase::PassedOver => Ok(b.next),
+        _ if chars::is_white(b.byte) => Ok(b.next),
+        _ => Err(Fault::malformed(here)),
     }
-    Err(Fault::malformed(here))
 }
 
 // The end of an element whose first tag at `at`, up to `next`, has no content.
