@@ -50,13 +50,11 @@ use Rattle.elements.proofs.Leavings.{adding_leaves, telling_leaves}
 
 -- ---- a record added
 -- what `map_err` hands back of what adding the record came to
-abbrev pub Blames : ℕ → Result (Unit {0}) Cause → Result (Unit {0}) Blame → Type 0
-Blames p n r = MatchResult n (λ x. r ≡ Ok x) (λ c. IsErrAnd r (λ d. d ≡ blame c p))
-
-blames_done : (p : ℕ) (n : Result (Unit {0}) Cause) (r : Result (Unit {0}) Blame) → Blames p n r → r ≡ result_map_both (λ u. u) (λ c. blame c p) n
-blames_done p (Ok x) r h = h
-blames_done p (Err c) (Ok x) h = absurd h
-blames_done p (Err c) (Err d) h = ap (faulty {B = Unit {0}}) h
+module _ (p : ℕ) (Made : Cause → Blame → Type 0) (made : (c : Cause) (d : Blame) → Made c d → d ≡ blame c p) where
+  blames_done : (n : Result (Unit {0}) Cause) (r : Result (Unit {0}) Blame) → MatchResult n (λ x. r ≡ Ok x) (λ c. IsErrAnd r (λ d. Made c d)) → r ≡ result_map_both (λ u. u) (λ c. blame c p) n
+  blames_done (Ok x) r h = h
+  blames_done (Err c) (Ok x) h = absurd h
+  blames_done (Err c) (Err d) h = ap (faulty {B = Unit {0}}) (made c d h)
 
 added_on : (s : Text) (p i : ℕ) (x : Ledger) (r : Record) (n : Result (Unit {0}) Cause) (v : List ℕ) → Added s x r n v → p ≤ length s → i ≤ length s
     → done_by (result_map_both (λ u. u) (λ c. blame c p) n) i (ledger_at s v) ≡ read_on (adding ledgered (length s - p) r x) s i
@@ -74,9 +72,10 @@ added_on s p i x r n v a h l = go (ledger_fault x r) a.answer
         ∙ fault_on (fault_at {A = Ledger} f (length s - p)) s i f p (length s - p) (omega arith) refl
 
 pub given_by : (s : Text) (p place : ℕ) (k : Item) (w : List ℕ) (n : Result (Unit {0}) Cause) (r : Result (Unit {0}) Blame) (v : List ℕ) → p ≤ length s
-    → Judged s w (number_of k) place n v → Blames p n r → Given s p place k w r v
-given_by s p place k w n r v h j b =
-    rw (blames_done p n r b) (record { answer = λ i l. added_on s p i (ledger_at s w) (record_by s (number_of k) place) n v j h l; faults = there n; fits = j.fits })
+    → Judged s w (number_of k) place n v → (Made : Cause → Blame → Type 0) → ((c : Cause) (d : Blame) → Made c d → d ≡ blame c p)
+    → MatchResult n (λ x. r ≡ Ok x) (λ c. IsErrAnd r (λ d. Made c d)) → Given s p place k w r v
+given_by s p place k w n r v h j Made made b =
+    rw (blames_done p Made made n r b) (record { answer = λ i l. added_on s p i (ledger_at s w) (record_by s (number_of k) place) n v j h l; faults = there n; fits = j.fits })
   where
     there : (n : Result (Unit {0}) Cause) → FaultsAt p (result_map_both (λ u. u) (λ c. blame c p) n)
     there (Ok u) = tt

@@ -14,7 +14,7 @@ pub second_tag-requires : goal.second_tag-requires
 second_tag-requires c = search (rules, tagged_named)
 
 pub returns-in_err-next-clause-exact : goal.returns-in_err-next-clause-exact
-returns-in_err-next-clause-exact c = shown_passed_as _ _ c.from_residual.ensures.1 (search (rules, tell_unclosed))
+returns-in_err-next-clause-exact c = shown_passed_as _ _ c.from_residual-in_err-next.ensures.1 (search (rules, tell_unclosed))
 
 pub returns-clause-exact : goal.returns-clause-exact
 returns-clause-exact c = search (rules, tell_closes)
