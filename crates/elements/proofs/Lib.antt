@@ -12,3 +12,4 @@ pub mod Leavings
 pub mod Passings
 pub mod Walks
 pub mod Givings
+pub mod Wholes

@@ -37,7 +37,7 @@ use Rattle.elements.specs.declared.rows.Leaf.{Leaf}
 use Rattle.elements.specs.declared.rows.Opening.{Opening as Row}
 use Rattle.elements.specs.declared.rows.Opening.TheVariants as O
 use Rattle.elements.specs.Rows.{phase_at, passing, sort_at, effect_at, opening_of}
-use Rattle.elements.specs.Goings.{Going, stood, read_on, shown_by, came, reached_at, Ready, Entered, Gone, Done, opened_by, content_at, element_at, filling_at, holding_at, saying_at, entering_at}
+use Rattle.elements.specs.Goings.{Going, stood, read_on, shown_by, came, reached_at, Ready, Entered, Gone, Passes, Done, opened_by, content_at, element_at, filling_at, holding_at, saying_at, entering_at}
 use Rattle.elements.proofs.Goings.{read_got, got_on, fault_on, same_on, on_stops, at_stops, got_goes, on_goes, at_returns, less_on, on_true, on_false, on_over, on_halts, on_turns}
 use Rattle.elements.proofs.Passings.{content_passed, not_passed, or_true}
 use Rattle.elements.proofs.Leavings.{leaves_blamed, doing_leaves, filling_leaves, contents_leave, nodes_leave, node_less}
@@ -116,25 +116,23 @@ module _ (s : Text) (i h : ℕ) (q : Phase) (w : List ℕ) (d : ℕ) (t : Bool) 
   abbrev node_to : Result Went Blame → List ℕ → Type 0
   node_to g v = Gone s (read_on (node_in (element_at d) (length s - h) (reached_at s q w)) s i) g v
 
-  strayed : not t ≡ true → read_on (straying (length s - h) (reached_at s q w)) s i ≡ read_on (node_in (element_at d) (length s - h) (reached_at s q w)) s i
+  strayed : t ≡ false → read_on (straying (length s - h) (reached_at s q w)) s i ≡ read_on (node_in (element_at d) (length s - h) (reached_at s q w)) s i
   unfolding node_in
   strayed z =
-      same_on (straying (length s - h) (reached_at s q w)) s i (node_in (element_at d) (length s - h) (reached_at s q w)) (sym (run_false _ _ _ (drop i s) (sym is ∙ not-true t z) refl))
+      same_on (straying (length s - h) (reached_at s q w)) s i (node_in (element_at d) (length s - h) (reached_at s q w)) (sym (run_false _ _ _ (drop i s) (sym is ∙ z) refl))
 
-  module _ (z : not t ≡ true) where
-    pub stray_faults : (e : Blame) → e.at ≤ length s
-        → ((x : Ledger) → Err e ≡ read_on (straying (length s - h) (reached (phase_at q) x)) s i) → node_to (Err e) w
+  module _ (z : t ≡ false) where
+    pub stray_faults : (e : Blame) → e.at ≤ length s → Passes s q (straying (length s - h)) i (Err e) → node_to (Err e) w
     stray_faults e l f = record { answer = f (ledger_at s w) ∙ strayed z; within = l; fits = r.fits }
 
-    pub stray_read : (n : ℕ) → n ≤ length s
-        → ((x : Ledger) → Ok (stood (reached (phase_at q) x) n) ≡ read_on (straying (length s - h) (reached (phase_at q) x)) s i) → node_to (Ok (record { next = n; phase = q })) w
+    pub stray_read : (n : ℕ) → n ≤ length s → Passes s q (straying (length s - h)) i (Ok n) → node_to (Ok (record { next = n; phase = q })) w
     stray_read n l f = record { answer = f (ledger_at s w) ∙ strayed z; within = l; fits = r.fits }
 
-  module _ (z : not t ≡ false) (u : Bool) (c : u ≡ starts_with (bytes "<!--") (drop i s)) where
+  module _ (z : t ≡ true) (u : Bool) (c : u ≡ starts_with (bytes "<!--") (drop i s)) where
     tagged : (m : Reader (Reached Ledger)) → (choose (bytes "<!--") (comment >> return (reached_at s q w)) (element_at d (reached_at s q w))) (drop i s) ≡ m (drop i s)
         → read_on m s i ≡ read_on (node_in (element_at d) (length s - h) (reached_at s q w)) s i
     unfolding node_in
-    tagged m e = same_on m s i (node_in (element_at d) (length s - h) (reached_at s q w)) (sym (run_true _ _ _ (drop i s) (sym is ∙ not-false t z) e))
+    tagged m e = same_on m s i (node_in (element_at d) (length s - h) (reached_at s q w)) (sym (run_true _ _ _ (drop i s) (sym is ∙ z) e))
 
     remarked : u ≡ true → read_on (comment >> return (reached_at s q w)) s i ≡ read_on (node_in (element_at d) (length s - h) (reached_at s q w)) s i
     remarked y = tagged (comment >> return (reached_at s q w)) (run_true _ _ _ (drop i s) (sym c ∙ y) refl)
@@ -228,12 +226,11 @@ module _ (s : Text) (i : ℕ) (t : Start) (w : List ℕ) (e : Entered s i t w) w
     fills_to g v = Gone s (read_on (filling_at d (length s - i) (opened_by s i t) (reached_at s q w)) s t.next) g v
 
     module _ (z : not t.full ≡ true) where
-      pub ended_faults : (b : Blame) → b.at ≤ length s → ((x : Ledger) → Err b ≡ read_on (complete (length s - i) (reached (phase_at q) x)) s t.next) → fills_to (Err b) w
+      pub ended_faults : (b : Blame) → b.at ≤ length s → Passes s q (complete (length s - i)) t.next (Err b) → fills_to (Err b) w
       unfolding filling
       ended_faults b l f = record { answer = on_false t.full _ (complete (length s - i) (reached_at s q w)) s t.next _ (not-true t.full z) (f (ledger_at s w)); within = l; fits = e.fits }
 
-      pub ended_whole : (n : ℕ) → n ≤ length s
-          → ((x : Ledger) → Ok (stood (reached (phase_at q) x) n) ≡ read_on (complete (length s - i) (reached (phase_at q) x)) s t.next) → fills_to (Ok (record { next = n; phase = q })) w
+      pub ended_whole : (n : ℕ) → n ≤ length s → Passes s q (complete (length s - i)) t.next (Ok n) → fills_to (Ok (record { next = n; phase = q })) w
       unfolding filling
       ended_whole n l f = record { answer = on_false t.full _ (complete (length s - i) (reached_at s q w)) s t.next _ (not-true t.full z) (f (ledger_at s w)); within = l; fits = e.fits }
 
@@ -257,12 +254,10 @@ module _ (s : Text) (i : ℕ) (t : Start) (w : List ℕ) (e : Entered s i t w) w
             (on_goes (content_at d (length s - i) (reached_at s q w)) s t.next (closing (part (i + 1) t.end s))
             (contents_leave ledgered d (length s - i) (reached_at s q w)) (reached_at s c.phase v) c.next r g.answer h)
 
-        pub closing_faults : (b : Blame) → b.at ≤ length s
-            → ((x : Ledger) → Err b ≡ read_on (closing (part (i + 1) t.end s) (reached (phase_at c.phase) x)) s c.next) → fills_to (Err b) v
+        pub closing_faults : (b : Blame) → b.at ≤ length s → Passes s c.phase (closing (part (i + 1) t.end s)) c.next (Err b) → fills_to (Err b) v
         closing_faults b k h = record { answer = closed (Err b) (h (ledger_at s v)); within = k; fits = g.fits }
 
-        pub filling_closes : (n : ℕ) → n ≤ length s
-            → ((x : Ledger) → Ok (stood (reached (phase_at c.phase) x) n) ≡ read_on (closing (part (i + 1) t.end s) (reached (phase_at c.phase) x)) s c.next)
+        pub filling_closes : (n : ℕ) → n ≤ length s → Passes s c.phase (closing (part (i + 1) t.end s)) c.next (Ok n)
             → fills_to (Ok (record { next = n; phase = c.phase })) v
         filling_closes n k h = record { answer = closed (Ok (stood (reached_at s c.phase v) n)) (h (ledger_at s v)); within = k; fits = g.fits }
 
