@@ -45,11 +45,6 @@ pub blamed_there : {A B : Type 0} (h : A → ℕ → B) (m : Reader A) (s : Text
 unfolding read_as
 blamed_there h m s i b = ap (λ (n : ℕ). placed_as h (length s) (blamed n m (drop i s))) (length-drop i s) ∙ blamed_at_lem h m s i i b
 
--- what `blame` hands back of what a reader answered
-pub blamed_is : {A B : Type 0} (k : A → ℕ → B) (m : Reader A) (s : Text) (i p : ℕ) (g r : Result B Blame) → p ≤ length s → g ≡ read_as k m s i → r ≡ blame_at p (length s) g
-    → r ≡ read_as k (blamed (length s - p) m) s i
-blamed_is k m s i p g r b e f = f ∙ ap (blame_at p (length s)) e ∙ sym (blamed_at_lem k m s i p b)
-
 -- one place behind another
 pub within_on : (s : Text) (i n m : ℕ) → Within s i n → Within s n m → Within s i m
 within_on s i n m h k = record { low = omega (arith, h.low, k.low); high = k.high }
@@ -61,19 +56,9 @@ put_within s i e w = go (eqb e.at (length s))
     go true = w
     go false = record { low = omega arith; high = omega (arith, w.low, w.high) }
 
-pub blamed_within_as : {B : Type 0} (p : B → ℕ) (s : Text) (i : ℕ) (g r : Result B Blame) → Within s i (place_of (result_map_both p (λ e. e) g)) → r ≡ blame_at i (length s) g
-    → Within s i (place_of (result_map_both p (λ e. e) r))
-blamed_within_as p s i (Ok b) r w f = rw f w
-blamed_within_as p s i (Err e) r w f = rw f (put_within s i e w)
-
 pub blamed_within : (s : Text) (i : ℕ) (g r : Result ℕ Blame) → Within s i (place_of g) → r ≡ blame_at i (length s) g → Within s i (place_of r)
 blamed_within s i (Ok b) r w f = rw f w
 blamed_within s i (Err e) r w f = rw f (put_within s i e w)
-
--- what is said of a value stays
-pub blamed_ok : {B : Type 0} (P : B → Type 0) (p l : ℕ) (g r : Result B Blame) → IfOk g P → r ≡ blame_at p l g → IfOk r P
-blamed_ok P p l (Ok b) r w f = rw f w
-blamed_ok P p l (Err e) r w f = rw f tt
 
 -- ---- comments and tags
 module _ (s : Text) (i : ℕ) (h : i ≤ length s) (g r : Result ℕ Blame) (f : r ≡ blame_at i (length s) g) where

@@ -9,15 +9,15 @@ use lib.Dec.{eqb}
 use borrow.Author.Tests.{eq-eqb, ne_eqb}
 use lib.ListN.{length, take, drop, get_or, set, length-drop}
 use Rattle.text.specs.Texts.{Text, run}
-use Rattle.documents.specs.Chars.{is_white, is_char, is_plain, next, after}
-use Rattle.documents.specs.Parts.{Got, got, Reader, ◌>>=◌, ◌>>◌, return, blamed, letter_of, comment, goes_on, letters, trim_end, trimmed}
+use Rattle.documents.specs.Chars.{is_white, is_char, is_plain, next}
+use Rattle.documents.specs.Parts.{Got, got, Reader, ◌>>=◌, ◌>>◌, return, blamed, letter_of, comment, goes_on, letters, trimmed}
 use Rattle.documents.proofs.Steps.{Ok as Accepts, accepted, ok_got, ok_then, ok_whether, ok_blamed, run_then, run_true, run_false, run_blamed}
 use Rattle.documents.proofs.Loops.{Less}
 use Rattle.documents.proofs.Chars.{plain_not}
 use Rattle.documents.proofs.Leaves.{Leaves, comment_leaves, letter_leaves, comment_less, letter_less}
 use Rattle.documents.proofs.Letters.{goes_none}
 use Rattle.documents.proofs.Alike.{Alike, both, neither, alike_got}
-use Rattle.std.specs.Prelude.{Result, Ok, Err}
+use Rattle.std.specs.Prelude.{Ok, Err}
 use Rattle.markup.specs.declared.answers.Fault.{Fault as Blame}
 use Rattle.markup.specs.declared.answers.Letter.{Letter}
 use Rattle.markup.specs.declared.gathering.Gathered.{Gathered}
@@ -47,9 +47,6 @@ module _ (k : Kept) (o : Text) (b : ℕ) (w : Bool) (e : w ≡ is_white b) where
     keep_other t = rw (sym e, t, and-false (eqb k.kept 0), p, add-one k.kept)
 
 -- ---- a letter or a comment
-blamed_leaves : {A : Type 0} (n : ℕ) (m : Reader A) → Leaves m → Leaves (blamed n m)
-blamed_leaves n m h x = ok_blamed n m x (h x)
-
 module _ (n : ℕ) (z : Tally) where
   pub keep_one_leaves : Leaves (keep_one n z)
   unfolding keep_one
@@ -107,9 +104,6 @@ pub record Gathers (s : Text) (i here : ℕ) (o₀ o : Text) (n : ℕ) (k : Kept
   pub few : k.kept ≤ n
   pub room : length o ≡ length o₀
   pub goes : keep_all (length s - here) (nothing_kept o₀) (drop i s) ≡ keep_all (length s - here) (tally k o) (drop n s)
-
-pub gather_start : (s : Text) (i here : ℕ) (o : Text) → i ≤ length s → Gathers s i here o o i (record { kept = 0; size = 0 })
-gather_start s i here o h = record { low = omega arith; high = h; few = omega arith; room = refl; goes = refl }
 
 -- one letter more is kept at most
 kept_one : (z : Tally) (b : ℕ) → (keeps z b).kept ≤ z.kept + 1

@@ -10,7 +10,7 @@ use lib.Dec.{eqb, ltb}
 use Rattle.std.proofs.lemmas.Bool.{le-ltb}
 use lib.ListN.{length, drop, get_or, length-drop, drop_of_length-le}
 use lib.Seq.{drop-cons}
-use borrow.Author.Tests.{not-true, not-false, eq-eqb, ne_eqb}
+use borrow.Author.Tests.{eq-eqb, ne_eqb}
 use Rattle.text.specs.Texts.{Text, starts_with}
 use Rattle.documents.specs.Chars.{after, next, is_white, is_char, is_quote, is_name_start, is_name_byte}
 use Rattle.documents.specs.Parts.{Reader, whether, word, name, quote_mark, is_attribute, remark, ends, goes_on}
@@ -116,24 +116,6 @@ module _ (s : Text) (i : ℕ) where
   pub quote_read : (t : Bool) → i < length s → t ≡ is_quote (get_or s i 0) → t ≡ true → Ok (i + 1) ≡ read_at quote_mark s i
   unfolding read_as quote_mark whether
   quote_read t l e h = rw (here s i l, sym e, h) (ap good (omega (arith, length-drop (i + 1) s)))
-
--- ---- one more attribute
-module _ (s : Text) (i : ℕ) where
-  pub attribute_none : length s ≤ i → false ≡ is_attribute (drop i s)
-  attribute_none l = rw (nothing_left s i l)
-
-  pub attribute_close : (t : Bool) → i < length s → t ≡ is_white (get_or s i 0) → t ≡ false → false ≡ is_attribute (drop i s)
-  attribute_close t l e h = rw (here s i l, sym e, h)
-
-  module _ (t : Bool) (n : ℕ) (l : i < length s) (e : t ≡ is_white (get_or s i 0)) (h : t ≡ true) (f : drop n s ≡ after is_white (drop i s)) where
-    follows : is_attribute (drop i s) ≡ next is_name_start (drop n s)
-    follows = let w : next is_white (drop i s) ≡ true = rw (here s i l, sym e, h) in rw (sym f, w)
-
-    pub attribute_end : length s ≤ n → false ≡ is_attribute (drop i s)
-    attribute_end k = sym (follows ∙ rw (nothing_left s n k))
-
-    pub attribute_start : (u : Bool) → n < length s → u ≡ is_name_start (get_or s n 0) → u ≡ is_attribute (drop i s)
-    attribute_start u k g = g ∙ sym (follows ∙ rw (here s n k))
 
 -- ---- comments
 module _ (s : Text) (i n : ℕ) (dash : Bool) (inv : read_at (remark false) s i ≡ read_at (remark dash) s n) where

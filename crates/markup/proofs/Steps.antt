@@ -12,7 +12,7 @@ use Rattle.std.specs.Result.{is_ok, result_unwrap_or, result_map_both, IsErrAnd}
 use Rattle.std.proofs.lemmas.Result.{err_from_is_err_and}
 use Rattle.text.specs.Texts.{Text, starts_with}
 use Rattle.documents.specs.Chars.{is_white, after}
-use Rattle.documents.specs.Parts.{Got, got, fault, Fault, malformed, Reader, ◌>>=◌, ◌>>◌, return, wrong, whether, choose, ends, word, white, many, walk}
+use Rattle.documents.specs.Parts.{Got, got, fault, malformed, Reader, ◌>>=◌, ◌>>◌, return, wrong, whether, choose, ends, word, white, many, walk}
 use Rattle.documents.proofs.Steps.{Ok as Accepts, accepted, refused, ok_got, run_then, run_true, run_false}
 use Rattle.documents.proofs.Loops.{Less, again, many_step, walk_step, walk_goes, walk_ends}
 use Rattle.documents.proofs.Leaves.{Leaves}
@@ -103,7 +103,7 @@ module _ {A : Type 0} (m : Reader A) (s : Text) (i : ℕ) where
       go (got a r) = refl
       go (fault d n) = refl
 
-  -- what is made of an answer's value, as its place alone; and a fault beside another value
+  -- what is made of an answer's value, as its place alone
   pub as_well : {B D : Type 0} (f : A → ℕ → B) (q : B → D) (b : B) → Ok b ≡ read_as f m s i → Ok (q b) ≡ read_as (λ a k. q (f a k)) m s i
   unfolding read_as
   as_well {B} {D} f q b e = go (m (drop i s)) refl
@@ -111,19 +111,6 @@ module _ {A : Type 0} (m : Reader A) (s : Text) (i : ℕ) where
       go : (x : Got A) → m (drop i s) ≡ x → Ok (q b) ≡ placed_as (λ a k. q (f a k)) (length s) (m (drop i s))
       go (got a r) h = rw h (ap (λ (y : B). fine (q y)) (same_value (e ∙ ap (placed_as f (length s)) h)))
       go (fault d k) h = absurd (not_both (e ∙ ap (placed_as f (length s)) h))
-
-  pub fault_alone : {C D : Type 0} (f : A → ℕ → C) (h : A → ℕ → D) (e : Blame) → Err e ≡ read_as f m s i → Err e ≡ read_as h m s i
-  unfolding read_as
-  fault_alone {C} {D} f h e p = go (m (drop i s)) refl
-    where
-      go : (x : Got A) → m (drop i s) ≡ x → Err e ≡ placed_as {B = D} h (length s) (m (drop i s))
-      go (got a r) q = absurd (not_both (sym (p ∙ ap (placed_as f (length s)) q)))
-      go (fault d n) q = rw q (carried (p ∙ ap (placed_as f (length s)) q))
-
--- a word alone, and nothing right
-pub wrong_at : {A B : Type 0} (f : A → ℕ → B) (s : Text) (i : ℕ) → i ≤ length s → Err (blame (cause_of malformed) i) ≡ read_as f (wrong {A = A}) s i
-unfolding read_as
-wrong_at {B = B} f s i h = ap (λ (n : ℕ). faulty {B = B} (blame (cause_of malformed) n)) (sym (place s i h))
 
 pub return_at : {A : Type 0} (a : A) (s : Text) (i : ℕ) → i ≤ length s → Ok i ≡ read_at (return a) s i
 unfolding read_as
@@ -133,10 +120,6 @@ return_at a s i h = ap good (sym (place s i h))
 pub white_goes : {B D : Type 0} (h : B → ℕ → D) (k : Reader B) (s : Text) (i n : ℕ) (r : Result D Blame) → drop n s ≡ after is_white (drop i s) → r ≡ read_as h k s n → r ≡ read_as h (white >> k) s i
 unfolding read_as white ◌>>=◌
 white_goes h k s i n r e f = f ∙ rw e
-
-pub white_returns : {A : Type 0} (a : A) (s : Text) (i n : ℕ) → n ≤ length s → drop n s ≡ after is_white (drop i s) → Ok n ≡ read_at (white >> return a) s i
-unfolding read_as white ◌>>=◌
-white_returns a s i n h e = ap good (sym (place s n h) ∙ ap (λ (z : Text). length s - length z) e)
 
 -- ---- a choice by what the text starts with, where the word was tried
 word_starts : (l : ℕ) (w x : Text) → is_ok (placed_as (λ a n. n) l (word w x)) ≡ starts_with w x

@@ -16,7 +16,7 @@ use Rattle.std.specs.Result.{result_unwrap_or}
 use Rattle.markup.specs.declared.answers.Fault.{Fault as Blame}
 use Rattle.markup.specs.Places.{read_as, read_at, blame_at, declaration}
 use Rattle.markup.proofs.Places.{here, nothing_left, good}
-use Rattle.markup.proofs.Steps.{return_at, started_is, then_goes, choose_hit, choose_miss, loop_over, loop_stops, loop_turns, read_less}
+use Rattle.markup.proofs.Steps.{return_at, then_goes, choose_hit, choose_miss, loop_over, loop_stops, loop_turns, read_less}
 use Rattle.markup.proofs.Loops.{word_goes}
 use Rattle.markup.proofs.Blames.{blamed_there}
 
@@ -62,12 +62,6 @@ module _ (s : Text) (i : ℕ) where
     unfolding read_as aside whether
     aside_note r h f = f ∙ rw (here s i l, sym e, h)
 
-    pub white_aside : t ≡ true → t ≡ is_aside (drop i s)
-    white_aside h = h ∙ rw (here s i l, sym e, h)
-
-    pub note_aside : (u : Bool) → t ≡ false → u ≡ starts_with (bytes "<!--") (drop i s) → u ≡ is_aside (drop i s)
-    note_aside u h f = f ∙ ap (λ (b : Bool). b || starts_with (bytes "<!--") (drop i s)) (sym (ap (next is_white) (here s i l) ∙ sym e ∙ h))
-
 pub asides_less : (s : Text) (n k : ℕ) → Ok k ≡ read_at aside s n → length s - k < length s - n
 asides_less s n = read_less aside s n aside_leaves aside_less
 
@@ -83,14 +77,3 @@ module _ (s : Text) (n : ℕ) (t : Bool) (more : t ≡ is_aside (drop n s)) (i :
   pub asides_turns : (k : ℕ) → t ≡ true → Ok k ≡ read_at aside s n → read_at asides s i ≡ read_at asides s k
   unfolding asides starts_with
   asides_turns k e f = loop_turns is_aside aside tt (λ a b. tt) refl (λ x y. aside_less x) s i n inv aside_leaves k (sym more ∙ e) f
-
--- ---- steps
-module _ {B D : Type 0} (h : B → ℕ → D) (s : Text) (i n : ℕ) (r : Result D Blame) where
-  pub order_mark_goes : (k : Reader B) → Ok n ≡ read_at order_mark s i → r ≡ read_as h k s n → r ≡ read_as h (order_mark >> k) s i
-  order_mark_goes k = then_goes order_mark s i h order_mark_leaves k n r
-
-  pub prolog_goes : (k : Reader B) → Ok n ≡ read_at prolog s i → r ≡ read_as h k s n → r ≡ read_as h (prolog >> k) s i
-  prolog_goes k = then_goes prolog s i h prolog_leaves k n r
-
-  pub asides_goes : (k : Reader B) → Ok n ≡ read_at asides s i → r ≡ read_as h k s n → r ≡ read_as h (asides >> k) s i
-  asides_goes k = then_goes asides s i h asides_leaves k n r

@@ -7,7 +7,7 @@ use lib.ListN.{length, drop, get_or, length-drop}
 use Rattle.std.specs.Prelude.{Result, Ok, Err}
 use Rattle.text.specs.Texts.{Text}
 use Rattle.documents.specs.Chars.{is_plain}
-use Rattle.documents.specs.Parts.{Got, got, fault, Reader, ◌>>=◌, ◌>>◌, return, wrong, choose, blamed, word, entity, letter_of}
+use Rattle.documents.specs.Parts.{Got, got, fault, Reader, ◌>>◌, return, wrong, choose, blamed, word, entity, letter_of}
 use Rattle.documents.proofs.Steps.{run_then, run_true, run_false, run_blamed}
 use Rattle.documents.proofs.Leaves.{Leaves}
 use Rattle.documents.proofs.Faults.{letter_once, blamed_once}

@@ -1,6 +1,6 @@
 use borrow.Author.Rules.{rules}
 use mathlib.Core.Bool.{true, false}
-use mathlib.Core.Path.{◌≡◌, sym}
+use mathlib.Core.Path.{sym}
 use lib.ListN.{length, get_or}
 use Rattle.markup.proofs.Places.{run_stops, run_goes, run_ends}
 use Rattle.markup.proofs.words.past.Goals as goal
