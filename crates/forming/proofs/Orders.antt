@@ -1,6 +1,6 @@
 -- The records one after the other, and what each puts in the listing's order.
 use mathlib.Core.Path.{◌≡◌, refl, sym, ap, ap₂, ◌∙◌}
-use mathlib.Core.Bool.{Bool, true, false, cond, ◌||◌}
+use mathlib.Core.Bool.{Bool, true, false, not, cond, ◌&&◌, ◌||◌}
 use mathlib.Core.List.{List, [], ◌∷◌, ◌++◌, map, append_assoc, append-nil}
 use Prim.Native.Nat.{ℕ, zero, suc, ◌+◌, ◌%◌, ◌≤◌, ◌<◌}
 use native.Mathlib.Numerals.{add-one}
@@ -8,7 +8,7 @@ use native.Mathlib.Omega.{arith}
 use lib.Dec.{eqb, leb, ltb}
 use lib.ListN.{length, take, drop, get_or, length-append, length-map, get_or-map, drop_of_length-le}
 use lib.Seq.{sets, length-take-le, drop-cons, get_or-take}
-use borrow.Author.Tests.{eq-eqb, ne_eqb, lt-ltb, le-ltb, leb-true, ltb-false}
+use borrow.Author.Tests.{leb-true, ltb-false}
 use Rattle.text.specs.Texts.{Text}
 use Rattle.text.proofs.Truths.{and_left, and_right, never}
 use Rattle.writing.proofs.Puts.{sets_then}
@@ -19,7 +19,7 @@ use Rattle.portals.specs.Records.{record_of}
 use Rattle.portals.specs.Listings.{roles_first, allows, blocks, line_of, lines_text}
 use Rattle.ledger.specs.Ledgers.{least, most_kept}
 use Rattle.ledger.specs.Places.{kind_by, record_at, records_at}
-use Rattle.forming.specs.Formed.{fields_fit, Writable, Formed, is_constraint, begun}
+use Rattle.forming.specs.Formed.{fields_fit, Writable, Formed, is_constraint, chosen, begun}
 use Rattle.forming.proofs.Lefts.{Left, left_behind, left_low}
 
 -- ---- texts put, by what they are
@@ -78,6 +78,13 @@ module _ (s : Text) (n : ℕ) (w : List ℕ) (F : Formed s n w) where
 
   pub record_writable : (i e : ℕ) → i < n → e ≤ 999000 → Writable s (get_or w i 0) e
   record_writable i e h l = record { short = F.short; fits = fits_here i h; low = l }
+
+  -- among the first n
+  taken_low : (i : ℕ) → i < length (take n w) → i < n
+  taken_low i h = omega (arith, length-take-le n w F.within)
+
+  pub record_taken : (i e : ℕ) → i < length (take n w) → e ≤ 999000 → Writable s (get_or (take n w) i 0) e
+  record_taken i e h l = rw (get_or-take n w i 0 (taken_low i h)) (record_writable i e (taken_low i h) l)
 
 -- ---- what one record puts
 pub lines_append : (a b : List Record) → lines_text (a ++ b) ≡ lines_text a ++ lines_text b
@@ -152,35 +159,23 @@ module _ (s : Text) (x : ℕ) where
       go : (k : ℕ) (f : Text) → k < 8 → allows (record_of (kind_by k) f ∷ []) ≡ cond (eqb k 3) (record_of (kind_by k) f ∷ []) []
       go k f l = eight (λ k. allows (record_of (kind_by k) f ∷ []) ≡ cond (eqb k 3) (record_of (kind_by k) f ∷ []) []) refl refl refl refl refl refl refl refl k l
 
-  blocks_are : is_constraint x ≡ false → blocks (its ∷ []) ≡ cond (ltb (x % 8) 4) [] (its ∷ [])
+  blocks_are : is_constraint x ≡ false → blocks (its ∷ []) ≡ chosen (not (eqb (x % 8) 0) && not (eqb (x % 8) 3)) its
   unfolding blocks
   blocks_are e = go (x % 8) its.field small e
     where
-      go : (k : ℕ) (f : Text) → k < 8 → (eqb k 1 || eqb k 2) ≡ false → blocks (record_of (kind_by k) f ∷ []) ≡ cond (ltb k 4) [] (record_of (kind_by k) f ∷ [])
+      go : (k : ℕ) (f : Text) → k < 8 → (eqb k 1 || eqb k 2) ≡ false → blocks (record_of (kind_by k) f ∷ []) ≡ chosen (not (eqb k 0) && not (eqb k 3)) (record_of (kind_by k) f)
       go k f l e =
-          eight (λ k. (eqb k 1 || eqb k 2) ≡ false → blocks (record_of (kind_by k) f ∷ []) ≡ cond (ltb k 4) [] (record_of (kind_by k) f ∷ []))
+          eight (λ k. (eqb k 1 || eqb k 2) ≡ false → blocks (record_of (kind_by k) f ∷ []) ≡ chosen (not (eqb k 0) && not (eqb k 3)) (record_of (kind_by k) f))
           (λ z. refl) (λ z. absurd (never true refl z)) (λ z. absurd (never true refl z)) (λ z. refl) (λ z. refl) (λ z. refl) (λ z. refl) (λ z. refl) k l e
 
-  pub role_line : x % 8 ≡ 0 → lines_text (roles_first (record_at s x ∷ [])) ≡ line_of (record_at s x)
-  role_line e = ap lines_text (roles_are ∙ ap (λ (b : Bool). cond b (its ∷ []) []) (eq-eqb (x % 8) 0 e)) ∙ one_line its
+  -- the line of a record that is wanted, and none
+  module _ (b : Bool) where
+    pub line_wanted : b ≡ true → lines_text (chosen b (record_at s x)) ≡ line_of (record_at s x)
+    line_wanted e = ap (λ (c : Bool). lines_text (chosen c its)) e ∙ one_line its
 
-  pub no_role : (x % 8 ≡ 0 → ⊥) → lines_text (roles_first (record_at s x ∷ [])) ≡ []
-  unfolding lines_text
-  no_role e = ap lines_text (roles_are ∙ ap (λ (b : Bool). cond b (its ∷ []) []) (ne_eqb (x % 8) 0 e))
-
-  pub allow_line : x % 8 ≡ 3 → lines_text (allows (record_at s x ∷ [])) ≡ line_of (record_at s x)
-  allow_line e = ap lines_text (allows_are ∙ ap (λ (b : Bool). cond b (its ∷ []) []) (eq-eqb (x % 8) 3 e)) ∙ one_line its
-
-  pub no_allow : (x % 8 ≡ 3 → ⊥) → lines_text (allows (record_at s x ∷ [])) ≡ []
-  unfolding lines_text
-  no_allow e = ap lines_text (allows_are ∙ ap (λ (b : Bool). cond b (its ∷ []) []) (ne_eqb (x % 8) 3 e))
-
-  pub part_line : is_constraint x ≡ false → 4 ≤ x % 8 → lines_text (blocks (record_at s x ∷ [])) ≡ line_of (record_at s x)
-  part_line c h = ap lines_text (blocks_are c ∙ ap (λ (b : Bool). cond b [] (its ∷ [])) (le-ltb (x % 8) 4 h)) ∙ one_line its
-
-  pub no_part : is_constraint x ≡ false → x % 8 < 4 → lines_text (blocks (record_at s x ∷ [])) ≡ []
-  unfolding lines_text
-  no_part c h = ap lines_text (blocks_are c ∙ ap (λ (b : Bool). cond b [] (its ∷ [])) (lt-ltb (x % 8) 4 h))
+    pub none_wanted : b ≡ false → lines_text (chosen b (record_at s x)) ≡ []
+    unfolding lines_text
+    none_wanted e = ap (λ (c : Bool). lines_text (chosen c its)) e
 
 -- ---- the turns of the loops
 module _ (s : Text) (n : ℕ) (w : List ℕ) (F : Formed s n w) (i : ℕ) where
@@ -244,15 +239,32 @@ module _ (s : Text) (n : ℕ) (w : List ℕ) (F : Formed s n w) (i : ℕ) where
     pub turn_low : (t : Text) → Left first at whole out e t → at + length whole ≤ 999000 → e ≤ 999000
     turn_low t L h = let l = left_low first at whole out e 999000 t L h in omega arith
 
-    pub role_turn : (e' : ℕ) (out' : Text) → i < n → Left first at whole out e (lines_text (roles_first (drop i rs)))
-        → e' ≡ e + length (lines_text (roles_first (record_at s (get_or w i 0) ∷ []))) → out' ≡ sets out e (lines_text (roles_first (record_at s (get_or w i 0) ∷ [])))
+    pub role_turn : (e' : ℕ) (out' : Text) → i < length (take n w) → Left first at whole out e (lines_text (roles_first (drop i rs)))
+        → (b : Bool) → b ≡ eqb (get_or (take n w) i 0 % 8) 0
+        → e' ≡ e + length (lines_text (chosen b (record_at s (get_or (take n w) i 0)))) → out' ≡ sets out e (lines_text (chosen b (record_at s (get_or (take n w) i 0))))
         → Left first at whole out' e' (lines_text (roles_first (drop (i + 1) rs)))
-    role_turn e' out' h L p b = left_behind first at whole out e _ (lines_text (roles_first (record_at s (get_or w i 0) ∷ []))) _ (roles_here h) L e' out' p b
+    role_turn e' out' h L b q p d = left_behind first at whole out e _ (lines_text (chosen b (record_at s (get_or (take n w) i 0)))) _ (roles_here l ∙ ap (λ (t : Text). t ++ lines_text (roles_first (drop (i + 1) rs))) its_lines) L e' out' p d
+      where
+        l : i < n
+        l = taken_low s n w F i h
+
+        here : get_or (take n w) i 0 ≡ get_or w i 0
+        here = get_or-take n w i 0 l
+
+        its_lines : lines_text (roles_first (record_at s (get_or w i 0) ∷ [])) ≡ lines_text (chosen b (record_at s (get_or (take n w) i 0)))
+        its_lines =
+            ap lines_text (roles_are s (get_or w i 0))
+            ∙ ap₂ (λ (c : Bool) (y : ℕ). lines_text (chosen c (record_at s y))) (sym (q ∙ ap (λ (y : ℕ). eqb (y % 8) 0) here)) (sym here)
 
     pub allow_turn : (e' : ℕ) (out' : Text) → i < n → (b : Bool) → b ≡ is_constraint (get_or w i 0) → b ≡ false → Left first at whole out e (lines_text (allows (drop i rs)))
-        → e' ≡ e + length (lines_text (allows (record_at s (get_or w i 0) ∷ []))) → out' ≡ sets out e (lines_text (allows (record_at s (get_or w i 0) ∷ [])))
+        → (a : Bool) → a ≡ eqb (get_or w i 0 % 8) 3
+        → e' ≡ e + length (lines_text (chosen a (record_at s (get_or w i 0)))) → out' ≡ sets out e (lines_text (chosen a (record_at s (get_or w i 0))))
         → Left first at whole out' e' (lines_text (allows (drop (i + 1) rs)))
-    allow_turn e' out' h t is c L p b = left_behind first at whole out e _ (lines_text (allows (record_at s (get_or w i 0) ∷ []))) _ (allows_here h (sym is ∙ c)) L e' out' p b
+    allow_turn e' out' h t is c L a q p b =
+        left_behind first at whole out e _ (lines_text (chosen a (record_at s (get_or w i 0)))) _
+        (allows_here h (sym is ∙ c)
+        ∙ ap (λ (t : Text). t ++ lines_text (allows (drop (i + 1) rs))) (ap lines_text (allows_are s (get_or w i 0)) ∙ ap (λ (c : Bool). lines_text (chosen c (record_at s (get_or w i 0)))) (sym q)))
+        L e' out' p b
 
     pub block_turn : (e' : ℕ) (out' : Text) → i < n → Left first at whole out e (lines_text (blocks (drop i rs)))
         → e' ≡ e + length (lines_text (begun (drop i rs))) → out' ≡ sets out e (lines_text (begun (drop i rs)))
@@ -293,5 +305,9 @@ module _ (s : Text) (n : ℕ) (w : List ℕ) (F : Formed s n w) (i at : ℕ) whe
     pub no_constraint : is_constraint (get_or w i 0) ≡ false
     no_constraint = sym is ∙ no
 
-    pub part_begun : lines_text (begun (drop i (records_at s n w))) ≡ lines_text (blocks (record_at s (get_or w i 0) ∷ []))
-    part_begun = begun_part s n w F i h no_constraint
+    pub part_begun : (a c : Bool) → a ≡ eqb (get_or w i 0 % 8) 0 → c ≡ eqb (get_or w i 0 % 8) 3
+        → lines_text (begun (drop i (records_at s n w))) ≡ lines_text (chosen (not a && not c) (record_at s (get_or w i 0)))
+    part_begun a c e f =
+        begun_part s n w F i h no_constraint
+        ∙ ap lines_text (blocks_are s (get_or w i 0) no_constraint)
+        ∙ ap₂ (λ (a c : Bool). lines_text (chosen (not a && not c) (record_at s (get_or w i 0)))) (sym e) (sym f)

@@ -30,6 +30,10 @@ pub record Formed (s : Text) (n : ℕ) (w : List ℕ) : Type 0 where
 abbrev pub is_constraint : ℕ → Bool
 is_constraint x = eqb (x % 8) 1 || eqb (x % 8) 2
 
+-- the record where it is wanted
+abbrev pub chosen : Bool → Record → List Record
+chosen b r = cond b (r ∷ []) []
+
 -- what the first of these records puts: a constraint its line and the names that it allows
 unfoldable pub begun : List Record → List Record
 unfolding allows blocks

@@ -1,28 +1,35 @@
 // The lines in the listing's order: the roles, then each constraint with the names that it allows and its collections.
-ghost use Rattle.std.specs.Prelude.{◌≡◌, false, [], ◌∷◌, ◌+◌, ◌%◌, ◌≤◌, ◌<◌, length, drop};
+ghost use Rattle.std.specs.Prelude.{◌≡◌, ◌+◌, ◌%◌, ◌≤◌, ◌<◌, eqb, length, drop};
 ghost use Rattle.std.proofs.lemmas.List.Edits.{sets};
 ghost use Rattle.portals.specs.Listings.{roles_first, allows, blocks, lines_text, written};
-ghost use Rattle.ledger.specs.Places.{record_at, records_at};
-ghost use Rattle.forming.specs.Formed.{Writable, Formed, is_constraint, begun};
+ghost use Rattle.ledger.specs.Places.{number_of, record_at, records_at};
+ghost use Rattle.forming.specs.Formed.{Writable, Formed, is_constraint, chosen, begun};
 
 use crate::lines;
+use ledger::items::Item;
 use writing;
+
+// Whether the record x is of that kind.
+pub fn is_of(x: u32, item: Item) -> bool
+    ensures { result ≡ eqb (x % 8) (number_of item) }
+{
+    x % 8 == u32::from(item)
+}
 
 // Whether the record x is a constraint.
 pub fn is_constraint(x: u32) -> bool
     ensures { result ≡ is_constraint x }
 {
-    let k = x % 8;
-    (k == 1) | (k == 2)
+    is_of(x, Item::Open) | is_of(x, Item::Auth)
 }
 
-// The line of the record x where it is a role, else nothing; the place behind it.
-pub fn put_role(s: &[u8], x: u32, out: &mut [u8], at: usize) -> usize
+// The line of the record x where it is wanted, else nothing; the place behind it.
+pub fn put_if(s: &[u8], x: u32, wanted: bool, out: &mut [u8], at: usize) -> usize
     requires { Writable s.now x at }
-    ensures place { result ≡ at + length (lines_text (roles_first (record_at s.now x ∷ []))) }
-    ensures bytes { out.new ≡ sets out.old at (lines_text (roles_first (record_at s.now x ∷ []))) }
+    ensures place { result ≡ at + length (lines_text (chosen wanted (record_at s.now x))) }
+    ensures bytes { out.new ≡ sets out.old at (lines_text (chosen wanted (record_at s.now x))) }
 {
-    if x % 8 == 0 {
+    if wanted {
         return lines::put_record(s, x, out, at);
     }
     at
@@ -34,25 +41,11 @@ pub fn put_roles(s: &[u8], w: &[u32], n: usize, out: &mut [u8], at: usize) -> us
     ensures place { result ≡ at + length (lines_text (roles_first (records_at s.now n w.now))) }
     ensures bytes { out.new ≡ sets out.old at (lines_text (roles_first (records_at s.now n w.now))) }
 {
-    let mut i = 0;
     let mut e = at;
-    while i < n {
-        e = put_role(s, w[i], out, e);
-        i += 1;
+    for x in &w[..n] {
+        e = put_if(s, *x, is_of(*x, Item::Role), out, e);
     }
     e
-}
-
-// The line of the record x where it allows a name, else nothing; the place behind it.
-pub fn put_allow(s: &[u8], x: u32, out: &mut [u8], at: usize) -> usize
-    requires { Writable s.now x at }
-    ensures place { result ≡ at + length (lines_text (allows (record_at s.now x ∷ []))) }
-    ensures bytes { out.new ≡ sets out.old at (lines_text (allows (record_at s.now x ∷ []))) }
-{
-    if x % 8 == 3 {
-        return lines::put_record(s, x, out, at);
-    }
-    at
 }
 
 // The lines of the names that are allowed from record i on, up to the next constraint; the place behind them.
@@ -61,29 +54,15 @@ pub fn put_allows(s: &[u8], w: &[u32], i: usize, n: usize, out: &mut [u8], at: u
     ensures place { result ≡ at + length (lines_text (allows (drop i (records_at s.now n w.now)))) }
     ensures bytes { out.new ≡ sets out.old at (lines_text (allows (drop i (records_at s.now n w.now)))) }
 {
-    let mut k = i;
     let mut e = at;
-    while k < n {
+    for k in i..n {
         let x = w[k];
         if is_constraint(x) {
             return e;
         }
-        e = put_allow(s, x, out, e);
-        k += 1;
+        e = put_if(s, x, is_of(x, Item::Allow), out, e);
     }
     e
-}
-
-// The line of the record x where it is a collection or stands in one, else nothing; the place behind it.
-pub fn put_part(s: &[u8], x: u32, out: &mut [u8], at: usize) -> usize
-    requires { Writable s.now x at × (is_constraint x ≡ false) }
-    ensures place { result ≡ at + length (lines_text (blocks (record_at s.now x ∷ []))) }
-    ensures bytes { out.new ≡ sets out.old at (lines_text (blocks (record_at s.now x ∷ []))) }
-{
-    if x % 8 < 4 {
-        return at;
-    }
-    lines::put_record(s, x, out, at)
 }
 
 // What record i puts: a constraint its line and the names that it allows; the place behind it.
@@ -97,7 +76,8 @@ pub fn put_block(s: &[u8], w: &[u32], i: usize, n: usize, out: &mut [u8], at: us
         let e = lines::put_record(s, x, out, at);
         return put_allows(s, w, i + 1, n, out, e);
     }
-    put_part(s, x, out, at)
+    let wanted = !is_of(x, Item::Role) & !is_of(x, Item::Allow);
+    put_if(s, x, wanted, out, at)
 }
 
 // The lines of the constraints and what they hold; the place behind them.
@@ -106,11 +86,9 @@ pub fn put_blocks(s: &[u8], w: &[u32], n: usize, out: &mut [u8], at: usize) -> u
     ensures place { result ≡ at + length (lines_text (blocks (records_at s.now n w.now))) }
     ensures bytes { out.new ≡ sets out.old at (lines_text (blocks (records_at s.now n w.now))) }
 {
-    let mut i = 0;
     let mut e = at;
-    while i < n {
+    for i in 0..n {
         e = put_block(s, w, i, n, out, e);
-        i += 1;
     }
     e
 }

@@ -5,6 +5,8 @@ ghost use Rattle.portals.specs.Listings.{head_of, line_of};
 ghost use Rattle.ledger.specs.Places.{text_at, kind_by, field_by, record_at};
 ghost use Rattle.forming.specs.Formed.{Writable};
 
+use ledger::items;
+use ledger::items::Item;
 use listings::records::Kind;
 use markup::gathering;
 use writing;
@@ -13,47 +15,40 @@ use writing;
 pub fn kind_of(x: u32) -> Kind
     ensures { result ≡ kind_by (x % 8) }
 {
-    let k = x % 8;
-    if k == 0 {
-        return Kind::Role;
+    match items::item_of(x) {
+        Item::Role => Kind::Role,
+        Item::Open | Item::Auth => Kind::Constraint,
+        Item::Allow => Kind::Allow,
+        Item::Collection => Kind::Collection,
+        Item::Pattern => Kind::Pattern,
+        Item::Method => Kind::Method,
+        Item::Omit => Kind::Omit,
     }
-    if k == 1 {
-        return Kind::Constraint;
-    }
-    if k == 2 {
-        return Kind::Constraint;
-    }
-    if k == 3 {
-        return Kind::Allow;
-    }
-    if k == 4 {
-        return Kind::Collection;
-    }
-    if k == 5 {
-        return Kind::Pattern;
-    }
-    if k == 6 {
-        return Kind::Method;
-    }
-    Kind::Omit
 }
 
-// How the line of a record of that kind begins; the place behind it.
+// How the line of a record of that kind begins.
+pub fn head_of(k: Kind) -> &'static [u8]
+    ensures { result.now ≡ head_of k }
+{
+    match k {
+        Kind::Role => b"role\t",
+        Kind::Constraint => b"constraint\t",
+        Kind::Allow => b"allow\t",
+        Kind::Collection => b"collection",
+        Kind::Pattern => b"pattern\t",
+        Kind::Method => b"method\t",
+        Kind::Omit => b"omit\t",
+        Kind::End => b"end",
+    }
+}
+
+// The same, put; the place behind it.
 pub fn put_head(k: Kind, out: &mut [u8], at: usize) -> usize
     requires { at ≤ 999000 }
     ensures place { result ≡ at + length (head_of k) }
     ensures bytes { out.new ≡ sets out.old at (head_of k) }
 {
-    match k {
-        Kind::Role => writing::put(out, at, b"role\t"),
-        Kind::Constraint => writing::put(out, at, b"constraint\t"),
-        Kind::Allow => writing::put(out, at, b"allow\t"),
-        Kind::Collection => writing::put(out, at, b"collection"),
-        Kind::Pattern => writing::put(out, at, b"pattern\t"),
-        Kind::Method => writing::put(out, at, b"method\t"),
-        Kind::Omit => writing::put(out, at, b"omit\t"),
-        Kind::End => writing::put(out, at, b"end"),
-    }
+    writing::put(out, at, head_of(k))
 }
 
 // The text at the place p of the file; the place behind it.
@@ -66,16 +61,10 @@ pub fn put_text(s: &[u8], p: usize, out: &mut [u8], at: usize) -> usize
         return at;
     }
     let mut letters = [0u8; 256];
-    let g = gathering::gather(s, p, p, &mut letters);
-    let n = g.len;
-    writing::put(out, at, &letters[0..n])
-}
-
-// The number of a record without its kind, as a place.
-pub fn place_of(x: u32) -> usize
-    ensures { result ≡ x / 8 }
-{
-    (x / 8) as usize
+    let Ok(g) = gathering::gather(s, p, p, &mut letters) else {
+        return at;
+    };
+    writing::put(out, at, &letters[..g.len])
 }
 
 // The field of the record x; the place behind it.
@@ -84,17 +73,12 @@ pub fn put_field(s: &[u8], x: u32, out: &mut [u8], at: usize) -> usize
     ensures place { result ≡ at + length (field_by s.now (x % 8) (x / 8)) }
     ensures bytes { out.new ≡ sets out.old at (field_by s.now (x % 8) (x / 8)) }
 {
-    let k = x % 8;
-    if k == 1 {
-        return writing::put(out, at, b"open");
+    match items::item_of(x) {
+        Item::Open => writing::put(out, at, b"open"),
+        Item::Auth => writing::put(out, at, b"auth"),
+        Item::Collection => at,
+        _ => put_text(s, (x / 8) as usize, out, at),
     }
-    if k == 2 {
-        return writing::put(out, at, b"auth");
-    }
-    if k == 4 {
-        return at;
-    }
-    put_text(s, place_of(x), out, at)
 }
 
 // The line of the record x; the place behind it.

@@ -12,8 +12,8 @@ returns-then-is_constraint-clause-place c = search (rules, done_place, allows_st
 pub returns-then-is_constraint-clause-bytes : goal.returns-then-is_constraint-clause-bytes
 returns-then-is_constraint-clause-bytes c = search (rules, done_bytes, allows_stop)
 
-pub put_allow-e-requires : goal.put_allow-e-requires
-put_allow-e-requires c = search (rules, record_writable, turn_low)
+pub put_if-e-requires : goal.put_if-e-requires
+put_if-e-requires c = search (rules, record_writable, turn_low)
 
 pub loop-k-preserved : goal.loop-k-preserved
 loop-k-preserved c = search (rules, allow_turn)

@@ -1,6 +1,5 @@
 -- `arranging::put_allows` meets its contract: what is left to be put is what the records from k on allow.
 use mathlib.Core.Path.{◌≡◌}
-use Prim.Native.Nat.{◌-◌, ◌≤◌}
 use lib.ListN.{length, drop}
 use Rattle.portals.specs.Listings.{allows, lines_text}
 use Rattle.ledger.specs.Places.{records_at}
@@ -9,7 +8,4 @@ use Rattle.forming.proofs.arranging.put_allows.Given as goal
 
 abbrev pub invariant-loop-k : goal.invariant-loop-k
 invariant-loop-k l =
-    (l.k ≤ l.n) × (length l.out ≡ length l.initial.out) × Left l.initial.out l.at (lines_text (allows (drop l.i (records_at l.s l.n l.w)))) l.out l.e (lines_text (allows (drop l.k (records_at l.s l.n l.w))))
-
-abbrev pub decreases-loop-k : goal.decreases-loop-k
-decreases-loop-k l = l.n - l.k
+    (length l.out ≡ length l.initial.out) × Left l.initial.out l.at (lines_text (allows (drop l.i (records_at l.s l.n l.w)))) l.out l.e (lines_text (allows (drop l.k (records_at l.s l.n l.w))))

@@ -1,6 +1,6 @@
 -- `arranging::put_block` meets its contract: a constraint with the names that it allows, or another record.
 use borrow.Author.Rules.{rules}
-use Rattle.forming.proofs.Orders.{put_place, put_bytes, block_writable, allows_room, constraint_place, constraint_bytes, no_constraint, part_begun}
+use Rattle.forming.proofs.Orders.{put_place, put_bytes, block_writable, allows_room, constraint_place, constraint_bytes, part_begun}
 use Rattle.forming.proofs.arranging.put_block.Goals as goal
 
 pub put_record-e-requires : goal.put_record-e-requires
@@ -15,8 +15,8 @@ returns-then-is_constraint-clause-place c = search (rules, constraint_place)
 pub returns-then-is_constraint-clause-bytes : goal.returns-then-is_constraint-clause-bytes
 returns-then-is_constraint-clause-bytes c = search (rules, constraint_bytes)
 
-pub put_part-requires : goal.put_part-requires
-put_part-requires c = (search (rules, block_writable), search (rules, no_constraint))
+pub put_if-requires : goal.put_if-requires
+put_if-requires c = search (rules, block_writable)
 
 pub returns-clause-place : goal.returns-clause-place
 returns-clause-place c = search (rules, put_place, part_begun)

@@ -1,6 +1,5 @@
 -- `arranging::put_blocks` meets its contract: what is left to be put is what the records from i on put.
 use mathlib.Core.Path.{◌≡◌}
-use Prim.Native.Nat.{◌-◌, ◌≤◌}
 use lib.ListN.{length, drop}
 use Rattle.portals.specs.Listings.{blocks, lines_text}
 use Rattle.ledger.specs.Places.{records_at}
@@ -9,7 +8,4 @@ use Rattle.forming.proofs.arranging.put_blocks.Given as goal
 
 abbrev pub invariant-loop-i : goal.invariant-loop-i
 invariant-loop-i l =
-    (l.i ≤ l.n) × (length l.out ≡ length l.initial.out) × Left l.initial.out l.at (lines_text (blocks (records_at l.s l.n l.w))) l.out l.e (lines_text (blocks (drop l.i (records_at l.s l.n l.w))))
-
-abbrev pub decreases-loop-i : goal.decreases-loop-i
-decreases-loop-i l = l.n - l.i
+    (length l.out ≡ length l.initial.out) × Left l.initial.out l.at (lines_text (blocks (records_at l.s l.n l.w))) l.out l.e (lines_text (blocks (drop l.i (records_at l.s l.n l.w))))

@@ -1,15 +1,11 @@
 -- `arranging::put_roles` meets its contract: what is left to be put is what the records from i on put.
 use mathlib.Core.Path.{◌≡◌}
-use Prim.Native.Nat.{◌-◌, ◌≤◌}
 use lib.ListN.{length, drop}
 use Rattle.portals.specs.Listings.{roles_first, lines_text}
 use Rattle.ledger.specs.Places.{records_at}
 use Rattle.forming.proofs.Lefts.{Left}
 use Rattle.forming.proofs.arranging.put_roles.Given as goal
 
-abbrev pub invariant-loop-i : goal.invariant-loop-i
-invariant-loop-i l =
-    (l.i ≤ l.n) × (length l.out ≡ length l.initial.out) × Left l.initial.out l.at (lines_text (roles_first (records_at l.s l.n l.w))) l.out l.e (lines_text (roles_first (drop l.i (records_at l.s l.n l.w))))
-
-abbrev pub decreases-loop-i : goal.decreases-loop-i
-decreases-loop-i l = l.n - l.i
+abbrev pub invariant-loop-x : goal.invariant-loop-x
+invariant-loop-x l =
+    (length l.out ≡ length l.initial.out) × Left l.initial.out l.at (lines_text (roles_first (records_at l.s l.n l.w))) l.out l.e (lines_text (roles_first (drop l.x-index (records_at l.s l.n l.w))))
