@@ -10,7 +10,7 @@ use lib.Seq.{get_or-drop}
 use borrow.Author.Tests.{eq-eqb, ne_eqb}
 use Rattle.std.specs.Prelude.{Result, Ok, Err}
 use Rattle.text.specs.Texts.{Text}
-use Rattle.documents.specs.Chars.{is_quote, is_name_byte, next, front}
+use Rattle.documents.specs.Chars.{is_plain, is_quote, is_name_byte, next, front}
 use Rattle.documents.specs.Parts.{Got, got, fault, Reader, ◌>>=◌, ◌>>◌, whether, wrong, word, name, quote_mark, letter_of, blamed, value, is_attribute, attribute, attributes}
 use Rattle.documents.proofs.Steps.{Ok as Accepts, accepted, refused, ok_got, ok_whether}
 use Rattle.documents.proofs.Loops.{Less}
@@ -21,7 +21,7 @@ use Rattle.markup.specs.declared.answers.Letter.{Letter}
 use Rattle.markup.specs.Places.{read_as, read_at, letter}
 use Rattle.markup.proofs.Places.{here, nothing_left, place, good}
 use Rattle.markup.proofs.Steps.{went, loop_over, loop_stops, loop_turns, read_less, stops, goes, then_goes, as_well}
-use Rattle.markup.proofs.Values.{same_as, letter_there}
+use Rattle.markup.proofs.Values.{same_as, letter_plain, letter_there}
 
 -- ---- words, byte for byte
 word_then : (b : ℕ) (w x : Text) → word (b ∷ w) x ≡ (word (b ∷ []) >> word w) x
@@ -79,6 +79,10 @@ module _ (q : ℕ) where
         where
           letter_place : (l : Letter) → Ok l ≡ read_as letter letter_of s n → Ok l.next ≡ read_at letter_of s n
           letter_place l k = as_well letter_of s n letter (λ z. z.next) l k
+
+    -- a byte that stands for itself
+    pub value_plain : (t : Bool) → n < length s → (get_or s n 0 ≡ q → ⊥) → t ≡ is_plain (get_or s n 0) → t ≡ true → read_at (value q) s i ≡ read_at (value q) s (n + 1)
+    value_plain t h e f g = value_turns h e (letter (get_or s n 0) (n + 1)) (letter_plain s n t h f (length s - n) g)
 
 pub value_less : (s : Text) (n : ℕ) (l : Letter) → Ok l ≡ read_as letter (blamed (length s - n) letter_of) s n → length s - l.next < length s - n
 value_less s n l g = read_less letter_of s n letter_leaves letter_less l.next (as_well letter_of s n letter (λ z. z.next) l (letter_there letter s n (Ok l) g))

@@ -14,7 +14,11 @@ pub fn value(s: &[u8], at: usize, q: u8) -> Result<usize, Fault>
 {
     let mut n = at;
     while n < s.len() && s[n] != q {
-        n = letters::letter(s, n, n)?.next;
+        if chars::is_plain(s[n]) {
+            n += 1;
+        } else {
+            n = letters::letter(s, n, n)?.next;
+        }
     }
     Ok(n)
 }
