@@ -8,6 +8,10 @@ use lib.Dec.{eqb, leb, ltb}
 use lib.ListN.{length, take, drop, get_or, replicate, length-take, length-replicate, get_or-replicate}
 use lib.Seq.{take_at, drop_at}
 use borrow.Author.Tests.{ltb-true, ltb-false, lt-ltb, le-ltb, eq-eqb, ne_eqb, eqb-true, eqb-false}
+use Rattle.std.specs.Prelude.{Result, Ok, Err}
+use Rattle.markup.specs.declared.answers.Fault.{Fault as Blame}
+use Rattle.markup.specs.Places.{cause_of, number_of}
+use Rattle.markup.proofs.Steps.{not_both, same_fault}
 use Rattle.text.specs.Texts.{Text, newline}
 use Rattle.text.proofs.Truths.{and_left, and_right, and_both}
 use Rattle.limits.specs.Limits.{most_bytes}
@@ -97,49 +101,62 @@ line_same s n = ap suc (ap (λ (k : ℕ). count newline (take k s)) (go n) ∙ e
     go (suc n) = let e : cond (eqb (suc n) 0) 1 (suc n) ≡ suc n = ap (λ (b : Bool). cond b 1 (suc n)) (ne_eqb (suc n) 0 (λ z. omega arith)) in omega arith
 
 -- ---- what comes of it
-module _ (s : Text) (f p : ℕ) (w : List ℕ) (R : FileRead s f p w) where
+-- the number is the same in both crates
+same_number : (e : Fault) → number_of (cause_of e) ≡ fault_number e
+same_number malformed = refl
+same_number deep = refl
+same_number unwanted = refl
+same_number bad_name = refl
+same_number bad_pattern = refl
+same_number role_twice = refl
+same_number past_most = refl
+
+module _ (s : Text) (q : Result ℕ Blame) (w : List ℕ) (R : FileRead s q w) where
   -- it is accepted
-  module _ (none : f ≡ 0) where
-    never : (e : Fault) → f ≡ fault_number e → ⊥
-    never e q = numbered e (sym q ∙ none)
+  module _ (p : ℕ) (z : q ≡ Ok p) where
+    never : {e : Blame} → q ≡ Err e → ⊥
+    never y = not_both (sym z ∙ y)
 
     pub read_formable : length s ≤ most_xml → Formable s w
     read_formable short = record { short = short; fits = R.fits; fit = go (file_of s) R.answer }
       where
-        go : (g : Got (List Record)) → ReadAs s g f p w → fields_fit (ledger_at s w).records ≡ true
+        go : (g : Got (List Record)) → ReadAs s g q w → fields_fit (ledger_at s w).records ≡ true
         go (got rs r) A = accepted_fit s rs w A.1
-        go (fault e n) A = absurd (never e A.0)
+        go (fault e n) A = absurd (never A)
 
     pub read_handed : (x : Handed) (room : ℕ) → x ≡ formed_of (ledger_at s w) room → x ≡ read_by s (file_of s) room
-    read_handed x room q = go (file_of s) R.answer
+    read_handed x room y = go (file_of s) R.answer
       where
-        go : (g : Got (List Record)) → ReadAs s g f p w → x ≡ read_by s g room
-        go (got rs r) A = q ∙ ap (λ (L : Ledger). formed_of L room) A.1.holds ∙ formed_handed rs A.1.long room
-        go (fault e n) A = absurd (never e A.0)
+        go : (g : Got (List Record)) → ReadAs s g q w → x ≡ read_by s g room
+        go (got rs r) A = y ∙ ap (λ (L : Ledger). formed_of L room) A.1.holds ∙ formed_handed rs A.1.long room
+        go (fault e n) A = absurd (never A)
 
     pub read_left : (out d : Text) → d ≡ formed_in (ledger_at s w) out → d ≡ read_in s out
     unfolding read_in made_in
-    read_left out d q = go (file_of s) R.answer
+    read_left out d y = go (file_of s) R.answer
       where
-        go : (g : Got (List Record)) → ReadAs s g f p w → d ≡ cond (eqb (read_by s g (length out)).number 0) (left_by g out) out
-        go (got rs r) A = q ∙ ap (λ (L : Ledger). formed_in L out) A.1.holds ∙ formed_left rs A.1.long out
-        go (fault e n) A = absurd (never e A.0)
+        go : (g : Got (List Record)) → ReadAs s g q w → d ≡ cond (eqb (read_by s g (length out)).number 0) (left_by g out) out
+        go (got rs r) A = y ∙ ap (λ (L : Ledger). formed_in L out) A.1.holds ∙ formed_left rs A.1.long out
+        go (fault e n) A = absurd (never A)
 
   -- there is a fault
-  module _ (some : f ≡ 0 → ⊥) where
-    pub fault_handed : (k l : ℕ) (x : Handed) (room : ℕ) → k ≡ f → l ≡ lines.line_at s p → x ≡ handed k 1 l 0 → x ≡ read_by s (file_of s) room
-    fault_handed k l x room a b q = go (file_of s) R.answer
+  module _ (f : Blame) (z : q ≡ Err f) where
+    pub fault_handed : (k l : ℕ) (x : Handed) (room : ℕ) → k ≡ number_of f.cause → l ≡ lines.line_at s f.at → x ≡ handed k 1 l 0 → x ≡ read_by s (file_of s) room
+    fault_handed k l x room a b y = go (file_of s) R.answer
       where
-        go : (g : Got (List Record)) → ReadAs s g f p w → x ≡ read_by s g room
-        go (got rs r) A = absurd (some A.0)
-        go (fault e n) A = q ∙ ap₂ (λ (i j : ℕ). handed i 1 j 0) (a ∙ A.0) (b ∙ ap (lines.line_at s) A.1 ∙ line_same s n)
+        go : (g : Got (List Record)) → ReadAs s g q w → x ≡ read_by s g room
+        go (got rs r) A = absurd (not_both (sym A.0.1 ∙ z))
+        go (fault e n) A =
+            let same = same_fault (sym z ∙ A) in
+            y
+            ∙ ap₂ (λ (i j : ℕ). handed i 1 j 0) (a ∙ ap (λ (d : Blame). number_of d.cause) same ∙ same_number e) (b ∙ ap (λ (d : Blame). lines.line_at s d.at) same ∙ line_same s n)
 
     pub fault_left : (out : Text) → out ≡ read_in s out
     unfolding read_in
     fault_left out = go (file_of s) R.answer
       where
-        go : (g : Got (List Record)) → ReadAs s g f p w → out ≡ cond (eqb (read_by s g (length out)).number 0) (left_by g out) out
-        go (got rs r) A = absurd (some A.0)
+        go : (g : Got (List Record)) → ReadAs s g q w → out ≡ cond (eqb (read_by s g (length out)).number 0) (left_by g out) out
+        go (got rs r) A = absurd (not_both (sym A.0.1 ∙ z))
         go (fault e n) A = sym (ap (λ (b : Bool). cond b out out) (ne_eqb (fault_number e) 0 (numbered e)))
 
 -- ---- the first n numbers of the work table
@@ -173,8 +190,8 @@ module _ (n : ℕ) (w w₁ : List ℕ) (h : n ≤ length w) (z : w₁ ≡ zeroed
     pub back_lent : n ≡ length (take n (a ++ drop n w₁))
     back_lent = back_length n w₁ a zero_within kept
 
-    pub back_read : (s : Text) (f p : ℕ) → shown_by f p (ledger_at s a) ≡ read_on (kept_of ledgered no_records) s 0 → Fits a → FileRead s f p (take n (a ++ drop n w₁))
-    back_read s f p e fits = subst (FileRead s f p) (sym (back_first n w₁ a zero_within kept)) (file_read s f p a e fits)
+    pub back_read : (s : Text) (q : Result ℕ Blame) → shown_by q (ledger_at s a) ≡ read_on (kept_of ledgered no_records) s 0 → Fits a → FileRead s q (take n (a ++ drop n w₁))
+    back_read s q e fits = subst (FileRead s q) (sym (back_first n w₁ a zero_within kept)) (file_read s q a e fits)
 
     pub back_long : n ≤ length (a ++ drop n w₁)
     back_long = let l = length-take n (a ++ drop n w₁) in let k = back_lent in omega arith

@@ -1,12 +1,14 @@
 -- What the functions of the call hand to each other.
-use Rattle.std.specs.Prelude.{ℕ, ◌-◌, ◌≤◌, ◌<◌, ◌≡◌, true, cond, List, ◌++◌, length, drop, eqb, ltb}
+use Rattle.std.specs.Prelude.{Result, Ok, Err, ℕ, ◌-◌, ◌≤◌, ◌<◌, ◌≡◌, true, cond, List, ◌++◌, length, drop, eqb, ltb}
 use Rattle.text.specs.Texts.{Text}
 use Rattle.limits.specs.Limits.{most_bytes}
+use Rattle.markup.specs.declared.answers.Fault.{Fault as Blame}
+use Rattle.markup.specs.Places.{cause_of, blame}
 use Rattle.documents.specs.Parts.{Got, got, fault}
 use Rattle.listings.specs.Records.{Record}
 use Rattle.portals.specs.Listings.{written}
 use Rattle.portals.specs.Readings.{file_of}
-use Rattle.portals.specs.Outcomes.{most_xml, fault_number, Handed, handed, made_of, read_by, left_by}
+use Rattle.portals.specs.Outcomes.{most_xml, Handed, handed, made_of, read_by, left_by}
 use Rattle.ledger.specs.Ledgers.{Ledger, most_kept, ledger_of}
 use Rattle.ledger.specs.Places.{ledger_at, Fits}
 use Rattle.forming.specs.Formed.{fields_fit}
@@ -18,13 +20,13 @@ pub record Accepted (s : Text) (rs : List Record) (w : List ℕ) : Type 0 where
   pub fit : fields_fit rs ≡ true
   pub long : most_kept < length rs → most_bytes < length (written rs)
 
--- the file is accepted so; or there is a fault, whose number and place these are
-abbrev pub ReadAs : Text → Got (List Record) → ℕ → ℕ → List ℕ → Type 0
-ReadAs s (got rs r) f p w = (f ≡ 0) × Accepted s rs w
-ReadAs s (fault e n) f p w = (f ≡ fault_number e) × (p ≡ length s - n)
+-- the file is accepted so; or there is a fault, put at its place
+abbrev pub ReadAs : Text → Got (List Record) → Result ℕ Blame → List ℕ → Type 0
+ReadAs s (got rs r) q w = ((p : ℕ) × (q ≡ Ok p)) × Accepted s rs w
+ReadAs s (fault e n) q w = q ≡ Err (blame (cause_of e) (length s - n))
 
-pub record FileRead (s : Text) (f p : ℕ) (w : List ℕ) : Type 0 where
-  pub answer : ReadAs s (file_of s) f p w
+pub record FileRead (s : Text) (q : Result ℕ Blame) (w : List ℕ) : Type 0 where
+  pub answer : ReadAs s (file_of s) q w
   pub fits : Fits w
 
 -- ---- the listing for what the table holds

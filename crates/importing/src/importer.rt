@@ -16,6 +16,7 @@ use forming::arranging;
 use ledger::adding;
 use limits;
 use listings::answers::{LONG_LISTING, SHORT_TABLE};
+use markup::answers::Fault;
 use markup::lines;
 use worktable;
 
@@ -52,23 +53,16 @@ pub fn form(s: &[u8], w: &[u32], listing: &mut [u8]) -> Import
     make(s, w, n, listing)
 }
 
-// The number of a fault.
-pub fn wide(f: u8) -> u32
-    ensures { result ≡ f }
-{
-    f as u32
-}
-
 // What comes of a file that is read: the fault and its line, or the listing.
-pub fn answer(s: &[u8], fault: u8, next: usize, w: &[u32], listing: &mut [u8]) -> Import
-    requires { (length s.now ≤ most_xml) × FileRead s.now fault next w.now }
+pub fn answer(s: &[u8], read: Result<usize, Fault>, w: &[u32], listing: &mut [u8]) -> Import
+    requires { (length s.now ≤ most_xml) × FileRead s.now read w.now }
     ensures handed { handed_by result ≡ read_by s.now (file_of s.now) (length listing.old) }
     ensures buffer { listing.new ≡ read_in s.now listing.old }
 {
-    if fault == 0 {
-        return form(s, w, listing);
+    match read {
+        Ok(_) => form(s, w, listing),
+        Err(f) => answers::refuse(u32::from(f.cause), 1, lines::line_of(s, f.at)),
     }
-    answers::refuse(wide(fault), 1, lines::line_of(s, next))
 }
 
 // The same with the first n numbers of w, which are 0 before and afterwards.
@@ -79,10 +73,8 @@ pub fn import_with(s: &[u8], listing: &mut [u8], w: &mut [u32], n: usize) -> Imp
     ensures work { w.new ≡ zeroed n w.old }
 {
     worktable::zero_first(w, n);
-    let f = files::file(s, &mut w[..n]);
-    let fault = f.fault;
-    let next = f.next;
-    let r = answer(s, fault, next, &w[..n], listing);
+    let read = files::file(s, &mut w[..n]);
+    let r = answer(s, read, &w[..n], listing);
     worktable::zero_first(w, n);
     r
 }

@@ -6,14 +6,14 @@ use Rattle.importing.proofs.importer.answer.Goals as goal
 pub form-requires : goal.form-requires
 form-requires c = search (rules, read_formable)
 
-pub returns-then-fault-eq0-clause-handed : goal.returns-then-fault-eq0-clause-handed
-returns-then-fault-eq0-clause-handed c = search (rules, read_handed)
+pub returns-in-Ok-clause-handed : goal.returns-in-Ok-clause-handed
+returns-in-Ok-clause-handed c = search (rules, read_handed)
 
-pub returns-then-fault-eq0-clause-buffer : goal.returns-then-fault-eq0-clause-buffer
-returns-then-fault-eq0-clause-buffer c = search (rules, read_left)
+pub returns-in-Ok-clause-buffer : goal.returns-in-Ok-clause-buffer
+returns-in-Ok-clause-buffer c = search (rules, read_left)
 
-pub returns-clause-handed : goal.returns-clause-handed
-returns-clause-handed c = search (rules, fault_handed)
+pub returns-in-Err-clause-handed : goal.returns-in-Err-clause-handed
+returns-in-Err-clause-handed c = search (rules, fault_handed)
 
-pub returns-clause-buffer : goal.returns-clause-buffer
-returns-clause-buffer c = search (rules, fault_left)
+pub returns-in-Err-clause-buffer : goal.returns-in-Err-clause-buffer
+returns-in-Err-clause-buffer c = search (rules, fault_left)

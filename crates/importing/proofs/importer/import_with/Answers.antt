@@ -6,8 +6,8 @@ use Rattle.importing.proofs.importer.import_with.Goals as goal
 pub slice_bounds-file-end-2 : goal.slice_bounds-file-end-2
 slice_bounds-file-end-2 c = search (rules, zero_lent)
 
-pub file-f-requires : goal.file-f-requires
-file-f-requires c = (search rules, search (rules, zero_fits), search (rules, zero_empty))
+pub file-read-requires : goal.file-read-requires
+file-read-requires c = (search rules, search (rules, zero_fits), search (rules, zero_empty))
 
 pub slice_bounds-answer-end-2 : goal.slice_bounds-answer-end-2
 slice_bounds-answer-end-2 c = search (rules, back_lent)
