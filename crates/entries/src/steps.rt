@@ -29,7 +29,7 @@ pub fn role(
     if !names::is_role_name(&s[a..e], clean) {
         return Err(Fault::BadName);
     }
-    if tables::index(s, w, tables::ROLES, n, &s[a..e]) < n {
+    if tables::index(s, w, tables::ROLES, n, &s[a..e]).is_some() {
         return Err(Fault::RoleTwice);
     }
     if most(Counted::Roles) <= n {
@@ -81,8 +81,7 @@ pub fn allow(
         tables::allow_declared(w, c, declared);
         return Ok(t.at(Stage::AfterAllow));
     }
-    let i = tables::index(s, w, tables::ROLES, n, &s[a..e]);
-    if i < n {
+    if let Some(i) = tables::index(s, w, tables::ROLES, n, &s[a..e]) {
         tables::allow_role(w, c, i);
         return Ok(t.at(Stage::AfterAllow));
     }
@@ -103,7 +102,7 @@ pub fn collection(s: &[u8], w: &mut [u32], t: Tally, a: usize, e: usize) -> Resu
     if most(Counted::Collections) <= n {
         return Err(Fault::PastMost);
     }
-    w[tables::COVERS + 1 + n] = 4294967295;
+    w[tables::COVERS + 1 + n] = u32::MAX;
     Ok(t.with_collection())
 }
 
@@ -175,8 +174,7 @@ pub fn method(
     if most(Counted::MethodLines) <= t.lines {
         return Err(Fault::PastMost);
     }
-    let i = tables::index(s, w, tables::METHODS, n, &s[a..e]);
-    if i < n {
+    if let Some(i) = tables::index(s, w, tables::METHODS, n, &s[a..e]) {
         mark(w, t, omits, i);
         return Ok(t.with_line(stage));
     }
