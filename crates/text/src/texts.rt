@@ -13,13 +13,6 @@ pub fn are_same(t: &[u8], u: &[u8]) -> bool
     t == u
 }
 
-// The same as `are_same`: goes when no other crate calls it.
-pub fn are_alike(t: &[u8], u: &[u8]) -> bool
-    ensures { result ≡ same t.now u.now }
-{
-    are_same(t, u)
-}
-
 // Whether t has the byte b.
 pub fn has_byte(b: u8, t: &[u8]) -> bool
     ensures { result ≡ has b t.now }
