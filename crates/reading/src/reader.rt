@@ -99,6 +99,7 @@ pub fn fill_lines(s: &[u8], w: &mut [u32], at: usize) -> Result<Tally, Refusal>
 {
     let mut t = Tally::start();
     let mut c = Cursor { at, line: 2 };
+    // Kept: (d) a line's length is known only when it is read, so a `for` would need an iterator type that holds this very loop.
     while c.at < s.len() {
         match line(s, w, t, c) {
             Err(fault) => return Err(c.refusal(fault)),
