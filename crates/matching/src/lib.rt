@@ -10,6 +10,7 @@ ghost use Rattle.matching.specs.Strengths.{Ends, strength, rooted_strength, star
 use text::texts;
 
 // Whether p is a path: 1 to 1,024 text bytes, the first '/'.
+#[tactic(auto, unfolding(decisions::specs::Requests::is_path))]
 pub fn is_path(p: &[u8]) -> bool
     ensures { result ≡ is_path p.now }
 {
