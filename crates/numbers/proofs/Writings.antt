@@ -1,14 +1,13 @@
 -- Numbers that are written into the scratch one after the other.
 use mathlib.Core.Path.{◌≡◌, ◌∙◌}
 use mathlib.Core.List.{List}
-use Prim.Native.Nat.{ℕ, ◌+◌, ◌≤◌, ◌<◌}
+use Prim.Native.Nat.{ℕ, ◌+◌, ◌<◌}
 use native.Mathlib.Decide.{dec_lt}
 use native.Mathlib.Omega.{arith}
 use lib.ListN.{length, get_or, set}
 use lib.Seq.{get_or-set_same, get_or-set_other}
 use Rattle.reading.specs.Views.{View, texts}
 use Rattle.firsts.proofs.Keepings.{kept_all, kept_set}
-use Rattle.firsts.specs.Keeping.{Kept}
 use Rattle.numbers.specs.Writes.{Wrote, LinesWritten}
 
 -- none yet

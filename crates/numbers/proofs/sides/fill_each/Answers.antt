@@ -1,4 +1,3 @@
-use Rattle.std.proofs.Common.{rules}
 use native.Mathlib.Omega.{arith}
 use Rattle.numbers.proofs.Writings.{wrote_none, wrote_more}
 use Rattle.numbers.proofs.sides.fill_each.Goals as goal

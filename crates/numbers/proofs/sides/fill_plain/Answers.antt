@@ -1,5 +1,4 @@
 -- `sides::fill_plain` meets its contract: three parts are filled one after the other.
-use borrow.Author.Rules.{rules}
 use Rattle.numbers.proofs.SideLines.{side_second, side_gaps, side_plain}
 use Rattle.numbers.proofs.sides.fill_plain.Goals as goal
 
