@@ -39,20 +39,6 @@ pub struct Tally {
     pub constraints: usize,
 }
 
-// The same number, as an index.
-pub fn wide(x: u32) -> usize
-    ensures { result ≡ x }
-{
-    x as usize
-}
-
-// A set of roles is 64 bits wide above this crate.
-pub fn wide_set(x: u32) -> u64
-    ensures { result ≡ x }
-{
-    x as u64
-}
-
 // The last two bytes of t and its length, as a number's last 16 digits hold them. Names often begin alike, and end in a number.
 pub fn stamp(t: &[u8]) -> u32
     ensures is { result ≡ stamp_of t.now }
