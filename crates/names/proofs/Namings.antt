@@ -1,4 +1,4 @@
--- The laws of names and patterns: conjunctions and alternatives of tests, taken one test at a time.
+-- Conjunctions and alternatives of tests, taken one test at a time.
 use mathlib.Core.Path.{◌≡◌, refl, sym, ◌∙◌}
 use mathlib.Core.Bool.{Bool, true, false, not, ◌&&◌, ◌||◌}
 use mathlib.Core.List.{[], ◌∷◌}
@@ -10,7 +10,7 @@ use borrow.Author.Tests.{le-leb, lt-leb, not-true, not-false}
 use Rattle.text.specs.Texts.{Text, same}
 use Rattle.text.proofs.Spans.{same_lengths}
 
--- ---- a conjunction or an alternative, test by test: `search (needs, tests)` goes along it
+-- `search (rules, tests)` goes along them
 -- a conjunction fails with its first part
 pub and_fails : (a b : Bool) → false ≡ a → false ≡ (a && b)
 and_fails a b e = rw (← e)
