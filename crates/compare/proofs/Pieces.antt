@@ -13,12 +13,6 @@ use Rattle.compare.specs.Printed.{decimal, where_text, refusal_line, written}
 
 -- ---- a field: a tab, and a number behind it
 module _ (out out₁ : Text) (at a n : ℕ) (offset : a ≡ at + 1) where
-  pub field_offset : (r : ℕ) → r ≡ a + length (decimal n) → r ≡ at + length (tab ∷ decimal n)
-  field_offset r e = omega arith
-
-  pub field_bytes : out₁ ≡ sets out at (bytes "\t") → (out₂ : Text) → out₂ ≡ sets out₁ a (decimal n) → out₂ ≡ sets out at (tab ∷ decimal n)
-  field_bytes put out₂ e = sets_then out out₁ out₂ (bytes "\t") (decimal n) at a offset put e
-
   pub field_size : (r : ℕ) → r ≡ a + length (decimal n) → r ≤ at + 11
   field_size r e = let l = digits_most 10 n in omega arith
 
@@ -26,9 +20,6 @@ module _ (out out₁ : Text) (at a n : ℕ) (offset : a ≡ at + 1) where
 module _ (out out₁ out₂ out₃ : Text) (at side line a b : ℕ) (at₁ : a ≡ at + length (tab ∷ decimal side)) (at₂ : b ≡ a + length (tab ∷ decimal line)) where
   both : b ≡ at + length ((tab ∷ decimal side) ++ (tab ∷ decimal line))
   both = omega (arith, length-append (tab ∷ decimal side) (tab ∷ decimal line))
-
-  pub where_offset : (r : ℕ) → r ≡ b + 1 → r ≡ at + length (where_text side line)
-  where_offset r e = omega (arith, both, length-append ((tab ∷ decimal side) ++ (tab ∷ decimal line)) (bytes "\n"))
 
   pub where_bytes : out₁ ≡ sets out at (tab ∷ decimal side) → out₂ ≡ sets out₁ a (tab ∷ decimal line) → out₃ ≡ sets out₂ b (bytes "\n") → out₃ ≡ sets out at (where_text side line)
   where_bytes p q s =
@@ -47,9 +38,6 @@ module _ (out : Text) (number side line : ℕ) (out₁ out₂ out₃ : Text) (a 
     (at₂ : b ≡ a + length (tab ∷ decimal number)) (put₂ : out₂ ≡ sets out₁ a (tab ∷ decimal number)) where
   ahead : b ≡ 0 + length (front number)
   ahead = omega (arith, length-append (bytes "refused") (tab ∷ decimal number))
-
-  pub number_near : b ≤ 100
-  number_near = omega (arith, digits_most 10 number)
 
   pub line_size : (r : ℕ) → r ≡ b + length (where_text side line) → r ≡ length (refusal_line number side line)
   line_size r e = rw (← whole number side line) (omega (arith, ahead, length-append (front number) (where_text side line)))

@@ -17,7 +17,7 @@ use Rattle.names.specs.Names.{is_star, made_of, is_name, is_role_name, is_method
 use Rattle.listings.specs.Records.{may_follow}
 use Rattle.entries.specs.Sets.{with_member, without_member, lowest}
 use Rattle.listings.specs.Heads.{is_first_method}
-use Rattle.entries.specs.Tables.{Tables, packed, Fits, Field, StepOutcome, Steps, stepped_by, next, tables_at, region, texts_at, check_role, check_constraint, check_allow, check_collection, check_pattern, check_method, add_role, add_constraint, add_allow, add_collection, add_pattern, add_method, add_omit, add_line, marked, stage_behind, field_check, field_add, check_record, step_from, record_with, spanned}
+use Rattle.entries.specs.Tables.{Tables, packed, Fits, Field, StepOutcome, Steps, stepped_by, next, tables_at, region, texts_at, found, check_role, check_constraint, check_allow, check_collection, check_pattern, check_method, add_role, add_constraint, add_allow, add_collection, add_pattern, add_method, add_omit, add_line, marked, stage_behind, field_check, field_add, check_record, step_from, record_with, spanned}
 use Rattle.entries.specs.Tallies.{tally_at, tally_role, tally_constraint, tally_allowed, tally_collection, tally_pattern, tally_line, tally_method}
 use Rattle.listings.specs.declared.answers.Fault.{Fault}
 use Rattle.listings.specs.declared.answers.Fault.TheVariants.{WrongPlace, BadName, BadPattern, RoleTwice, PastMost}
@@ -26,8 +26,10 @@ use Rattle.listings.specs.declared.records.Kind.TheVariants.{Role, Constraint, A
 use Rattle.listings.specs.declared.records.Stage.{Stage}
 use Rattle.listings.specs.declared.records.Stage.TheVariants.{AfterOpen, AfterAuth, AfterAllow, AfterMethod, AfterOmit, AfterEnd}
 use Rattle.entries.specs.declared.tables.Tally.{Tally}
-use Rattle.std.specs.Prelude.{Result, Ok, Err}
-use Rattle.text.proofs.Truths.{and_left, and_right}
+use Rattle.std.specs.Prelude.{Result, Ok, Err, Some, None, is_some}
+use Rattle.std.specs.Prelude.{Option as Maybe}
+use Rattle.entries.proofs.Regions.{found_some, found_none}
+use Rattle.text.proofs.Truths.{never, and_left, and_right}
 use Rattle.entries.proofs.Growth as G
 
 -- ---- names and patterns are short enough to be named by a number
@@ -114,30 +116,56 @@ module _ (s : Text) (t : Tally) (w : List ℕ) (a e : ℕ) (d : Field s t w a e)
           rw l (taken check_constraint add_constraint s t w a e _ r (tally_constraint t AfterAuth) constraint_room q
           (G.auth_grown s t w d.fits (part a e s) (sym is ∙ k) few_constraints) (kept w (simp length-set) (omega arith)))
 
+  -- what the search among the roles answers, and that among the methods
+  roles_room : 0 + t.roles ≤ length w
+  roles_room = let f = d.fits in omega (arith, f.room, f.roles)
+
+  methods_room : 32 + t.methods ≤ length w
+  methods_room = let f = d.fits in omega (arith, f.room, f.methods)
+
+  module _ (o : Maybe ℕ) (q : o ≡ found (part a e s) (texts_at s (region w 0 t.roles))) where
+    roles_here : is_some o ≡ true → index_of (part a e s) (texts_at s (region w 0 t.roles)) < t.roles
+    roles_here z = go o refl z
+      where
+        go : (x : Maybe ℕ) → o ≡ x → is_some x ≡ true → index_of (part a e s) (texts_at s (region w 0 t.roles)) < t.roles
+        go (Some j) g h = let f = found_some s (part a e s) w 0 t.roles roles_room o q j g in rw (← f.0) f.1
+        go None g h = absurd (never false h refl)
+
+    roles_nowhere : is_some o ≡ false → t.roles ≤ index_of (part a e s) (texts_at s (region w 0 t.roles))
+    roles_nowhere z = go o refl z
+      where
+        go : (x : Maybe ℕ) → o ≡ x → is_some x ≡ false → t.roles ≤ index_of (part a e s) (texts_at s (region w 0 t.roles))
+        go (Some j) g h = absurd (never true refl h)
+        go None g h = found_none s (part a e s) w 0 t.roles roles_room o q g
+
   -- `role⇥NAME`
   module _ (b : Bool) (good : b ≡ is_role_name (part a e s)) where
     pub role_bad : (left : List ℕ) → not b ≡ true → Steps check_role add_role s t w a e (Err BadName) left
     role_bad left y = refused check_role add_role s t w a e left BadName (rw (← good, y))
 
-    module _ (y : not b ≡ false) (i : ℕ) (q : i ≡ index_of (part a e s) (texts_at s (region w 0 t.roles))) where
-      pub role_twice_lem : (left : List ℕ) → i < t.roles → Steps check_role add_role s t w a e (Err RoleTwice) left
-      unfolding tables_at
-      role_twice_lem left h =
-          refused check_role add_role s t w a e left RoleTwice (rw (← good, y, G.count_roles s t w d.fits, ← q, lt-ltb _ _ h))
+    module _ (y : not b ≡ false) (o : Maybe ℕ) (q : o ≡ found (part a e s) (texts_at s (region w 0 t.roles))) (k : Bool) (p : k ≡ is_some o) where
+      abbrev i : ℕ
+      i = index_of (part a e s) (texts_at s (region w 0 t.roles))
 
-      pub role_past : (left : List ℕ) (most : ℕ) → most ≡ 32 → t.roles ≤ i → most ≤ t.roles → Steps check_role add_role s t w a e (Err PastMost) left
+      pub role_twice_lem : (left : List ℕ) → k ≡ true → Steps check_role add_role s t w a e (Err RoleTwice) left
       unfolding tables_at
-      role_past left most x k g =
+      role_twice_lem left z =
+          let h : i < t.roles = roles_here o q (sym p ∙ z) in
+          refused check_role add_role s t w a e left RoleTwice (rw (← good, y, G.count_roles s t w d.fits, lt-ltb _ _ h))
+
+      pub role_past : (left : List ℕ) (most : ℕ) → most ≡ 32 → k ≡ false → most ≤ t.roles → Steps check_role add_role s t w a e (Err PastMost) left
+      unfolding tables_at
+      role_past left most x z g =
           let h : 32 ≤ t.roles = omega (arith, x) in
-          refused check_role add_role s t w a e left PastMost (rw (← good, y, G.count_roles s t w d.fits, ← q, le-ltb _ _ k, le-leb _ _ h))
+          refused check_role add_role s t w a e left PastMost (rw (← good, y, G.count_roles s t w d.fits, le-ltb _ _ (roles_nowhere o q (sym p ∙ z)), le-leb _ _ h))
 
       pub role_next : (r : Tally) (left : List ℕ) (most : ℕ) → most ≡ 32 → left ≡ set w (0 + t.roles) (packed s a e) → r ≡ tally_role t
-          → t.roles ≤ i → t.roles < most → Steps check_role add_role s t w a e (Ok r) left
+          → k ≡ false → t.roles < most → Steps check_role add_role s t w a e (Ok r) left
       unfolding tables_at
-      role_next r left most x l m k g =
+      role_next r left most x l m z g =
           let h : t.roles < 32 = omega (arith, x) in
           rw l (taken check_role add_role s t w a e _ r (tally_role t)
-          (rw (← good, y, G.count_roles s t w d.fits, ← q, le-ltb _ _ k, lt-leb _ _ h)) m
+          (rw (← good, y, G.count_roles s t w d.fits, le-ltb _ _ (roles_nowhere o q (sym p ∙ z)), lt-leb _ _ h)) m
           (G.role_grown s t w d.fits a e d.from d.to (role_name_short s a e d.to b good y) h)
           (kept w (simp length-set) (omega arith)))
 
@@ -154,32 +182,37 @@ module _ (s : Text) (t : Tally) (w : List ℕ) (a e : ℕ) (d : Field s t w a e)
           rw l (taken check_allow add_allow s t w a e _ r (tally_at t AfterAllow) (rw (← good, y, ← is, k)) m
           (G.star_grown s t w d.fits (part a e s) (sym is ∙ k)) (kept w (simp length-set) (omega arith)))
 
-      module _ (n : o ≡ false) (i : ℕ) (q : i ≡ index_of (part a e s) (texts_at s (region w 0 t.roles))) where
-        pub allow_known : (r : Tally) (left : List ℕ)
+      module _ (n : o ≡ false) (v : Maybe ℕ) (found_as : v ≡ found (part a e s) (texts_at s (region w 0 t.roles))) where
+        pub allow_known : (i : ℕ) (r : Tally) (left : List ℕ) → v ≡ Some i
             → left ≡ set (set w (580 + t.constraints) (bit_or (get_or w (580 + t.constraints) 0) (with_member 0 i))) (650 + t.constraints) 2
-            → r ≡ tally_at t AfterAllow → i < t.roles → Steps check_allow add_allow s t w a e (Ok r) left
+            → r ≡ tally_at t AfterAllow → Steps check_allow add_allow s t w a e (Ok r) left
         unfolding tables_at
-        allow_known r left l m h =
+        allow_known i r left k l m =
+            let f = found_some s (part a e s) w 0 t.roles roles_room v found_as i k in
+            let q = f.0 in
+            let h = f.1 in
             rw l (taken check_allow add_allow s t w a e _ r (tally_at t AfterAllow)
             (rw (← good, y, ← is, n, G.count_roles s t w d.fits, ← q, lt-ltb _ _ h)) m
             (G.known_role_grown s t w d.fits (part a e s) (sym is ∙ n) i q h) (kept w (simp length-set) (omega arith)))
 
-        pub allow_past : (left : List ℕ) (most : ℕ) → most ≡ 32 → t.roles ≤ i → most ≤ t.roles → Steps check_allow add_allow s t w a e (Err PastMost) left
+        pub allow_past : (left : List ℕ) (most : ℕ) → most ≡ 32 → v ≡ None → most ≤ t.roles → Steps check_allow add_allow s t w a e (Err PastMost) left
         unfolding tables_at
-        allow_past left most x k g =
+        allow_past left most x none_is g =
             let h : 32 ≤ t.roles = omega (arith, x) in
+            let k = found_none s (part a e s) w 0 t.roles roles_room v found_as none_is in
             refused check_allow add_allow s t w a e left PastMost
-            (rw (← good, y, ← is, n, G.count_roles s t w d.fits, ← q, le-ltb _ _ k, le-leb _ _ h))
+            (rw (← good, y, ← is, n, G.count_roles s t w d.fits, le-ltb _ _ k, le-leb _ _ h))
 
-        pub allow_new : (r : Tally) (v left : List ℕ) (most : ℕ) → most ≡ 32 → v ≡ set w (0 + t.roles) (packed s a e)
-            → left ≡ set (set v (580 + t.constraints) (bit_or (get_or v (580 + t.constraints) 0) (with_member 0 t.roles))) (650 + t.constraints) 2
-            → r ≡ tally_allowed t → t.roles ≤ i → t.roles < most → Steps check_allow add_allow s t w a e (Ok r) left
+        pub allow_new : (r : Tally) (u left : List ℕ) (most : ℕ) → most ≡ 32 → u ≡ set w (0 + t.roles) (packed s a e)
+            → left ≡ set (set u (580 + t.constraints) (bit_or (get_or u (580 + t.constraints) 0) (with_member 0 t.roles))) (650 + t.constraints) 2
+            → r ≡ tally_allowed t → v ≡ None → t.roles < most → Steps check_allow add_allow s t w a e (Ok r) left
         unfolding tables_at
-        allow_new r v left most x z l m k g =
+        allow_new r u left most x z l m none_is g =
             let h : t.roles < 32 = omega (arith, x) in
+            let k = found_none s (part a e s) w 0 t.roles roles_room v found_as none_is in
             rw l (taken check_allow add_allow s t w a e _ r (tally_allowed t)
-            (rw (← good, y, ← is, n, G.count_roles s t w d.fits, ← q, le-ltb _ _ k, lt-leb _ _ h)) m
-            (G.new_role_grown s t w d.fits a e d.from d.to (name_short s a e d.to b good y) i (sym is ∙ n) q k h v z)
+            (rw (← good, y, ← is, n, G.count_roles s t w d.fits, le-ltb _ _ k, lt-leb _ _ h)) m
+            (G.new_role_grown s t w d.fits a e d.from d.to (name_short s a e d.to b good y) (index_of (part a e s) (texts_at s (region w 0 t.roles))) (sym is ∙ n) refl k h u z)
             (kept w (rw z (simp length-set)) (omega arith)))
 
   -- `pattern⇥TEXT`
@@ -213,49 +246,64 @@ module _ (s : Text) (t : Tally) (w : List ℕ) (a e : ℕ) (d : Field s t w a e)
         let h : 512 ≤ t.lines = omega (arith, x) in
         refused check_method add s t w a e left PastMost (rw (← good, y, le-leb _ _ h))
 
-    module _ (y : not b ≡ false) (most : ℕ) (x : most ≡ 512) (few : t.lines < most) (i : ℕ) (q : i ≡ index_of (part a e s) (texts_at s (region w 32 t.methods))) where
+    module _ (y : not b ≡ false) (most : ℕ) (x : most ≡ 512) (few : t.lines < most) (o : Maybe ℕ) (q : o ≡ found (part a e s) (texts_at s (region w 32 t.methods))) where
+      abbrev place : ℕ
+      place = index_of (part a e s) (texts_at s (region w 32 t.methods))
+
+      nowhere : o ≡ None → t.methods ≤ place
+      nowhere z = found_none s (part a e s) w 32 t.methods methods_room o q z
+
       few_lines : t.lines < 512
       few_lines = omega (arith, x)
 
-      pub methods_past : (add : Tables → Text → Tables) (left : List ℕ) (many : ℕ) → many ≡ 31 → t.methods ≤ i → many ≤ t.methods
+      pub methods_past : (add : Tables → Text → Tables) (left : List ℕ) (many : ℕ) → many ≡ 31 → o ≡ None → many ≤ t.methods
           → Steps check_method add s t w a e (Err PastMost) left
       unfolding tables_at
-      methods_past add left many x k f =
+      methods_past add left many x z f =
           let h : 31 ≤ t.methods = omega (arith, x) in
+          let k = nowhere z in
           refused check_method add s t w a e left PastMost
-          (rw (← good, y, lt-leb _ _ few_lines, G.count_methods s t w d.fits, ← q, le-ltb _ _ k, le-leb _ _ h))
+          (rw (← good, y, lt-leb _ _ few_lines, G.count_methods s t w d.fits, le-ltb _ _ k, le-leb _ _ h))
 
-      known_room : i < t.methods → none ≡ check_method (tables_at s t w) (part a e s)
+      known_room : place < t.methods → none ≡ check_method (tables_at s t w) (part a e s)
       unfolding tables_at
-      known_room h = rw (← good, y, lt-leb _ _ few_lines, G.count_methods s t w d.fits, ← q, lt-ltb _ _ h)
+      known_room h = rw (← good, y, lt-leb _ _ few_lines, G.count_methods s t w d.fits, lt-ltb _ _ h)
 
-      new_room : t.methods ≤ i → t.methods < 31 → none ≡ check_method (tables_at s t w) (part a e s)
+      new_room : t.methods ≤ place → t.methods < 31 → none ≡ check_method (tables_at s t w) (part a e s)
       unfolding tables_at
-      new_room k h = rw (← good, y, lt-leb _ _ few_lines, G.count_methods s t w d.fits, ← q, le-ltb _ _ k, lt-leb _ _ h)
+      new_room k h = rw (← good, y, lt-leb _ _ few_lines, G.count_methods s t w d.fits, le-ltb _ _ k, lt-leb _ _ h)
 
       module _ (r : Tally) (left : List ℕ) where
-        pub line_known : (omits : Bool) (stage : Stage) → stage ≡ stage_behind omits
-            → left ≡ set w (448 + t.collections) (marked omits (is_first_method t.stage) (get_or w (448 + t.collections) 0) i)
-            → r ≡ tally_line t stage → i < t.methods → Steps check_method (add_line omits) s t w a e (Ok r) left
-        line_known true stage z l m h =
-            rw l (taken check_method add_omit s t w a e _ r (tally_line t AfterOmit) (known_room h) (m ∙ ap (tally_line t) z)
-            (G.known_omit_grown s t w d.fits (part a e s) i q few_lines h) (kept w (simp length-set) (omega (arith, few_lines))))
-        line_known false stage z l m h =
-            rw l (taken check_method add_method s t w a e _ r (tally_line t AfterMethod) (known_room h) (m ∙ ap (tally_line t) z)
-            (G.known_method_grown s t w d.fits (part a e s) i q (is_first_method t.stage) refl few_lines h) (kept w (simp length-set) (omega (arith, few_lines))))
+        pub line_known : (omits : Bool) (stage : Stage) (j : ℕ) → stage ≡ stage_behind omits → o ≡ Some j
+            → left ≡ set w (448 + t.collections) (marked omits (is_first_method t.stage) (get_or w (448 + t.collections) 0) j)
+            → r ≡ tally_line t stage → Steps check_method (add_line omits) s t w a e (Ok r) left
+        line_known omits stage j z k l m =
+            let f = found_some s (part a e s) w 32 t.methods methods_room o q j k in
+            by omits (m ∙ ap (tally_line t) z) (rw f.0 at l) (rw f.0 at f.1)
+          where
+            by : (x : Bool) → r ≡ tally_line t (stage_behind x) → left ≡ set w (448 + t.collections) (marked x (is_first_method t.stage) (get_or w (448 + t.collections) 0) place) → place < t.methods
+                → Steps check_method (add_line x) s t w a e (Ok r) left
+            by true m l h =
+                rw l (taken check_method add_omit s t w a e _ r (tally_line t AfterOmit) (known_room h) m
+                (G.known_omit_grown s t w d.fits (part a e s) place refl few_lines h) (kept w (simp length-set) (omega (arith, few_lines))))
+            by false m l h =
+                rw l (taken check_method add_method s t w a e _ r (tally_line t AfterMethod) (known_room h) m
+                (G.known_method_grown s t w d.fits (part a e s) place refl (is_first_method t.stage) refl few_lines h) (kept w (simp length-set) (omega (arith, few_lines))))
 
         pub line_new : (omits : Bool) (stage : Stage) (v : List ℕ) (many : ℕ) → stage ≡ stage_behind omits → many ≡ 31 → v ≡ set w (32 + t.methods) (packed s a e)
             → left ≡ set v (448 + t.collections) (marked omits (is_first_method t.stage) (get_or v (448 + t.collections) 0) t.methods)
-            → r ≡ tally_method t stage → t.methods ≤ i → t.methods < many → Steps check_method (add_line omits) s t w a e (Ok r) left
-        line_new true stage v many y' x z l m k f =
+            → r ≡ tally_method t stage → o ≡ None → t.methods < many → Steps check_method (add_line omits) s t w a e (Ok r) left
+        line_new true stage v many y' x z l m u f =
             let h : t.methods < 31 = omega (arith, x) in
+            let k = nowhere u in
             rw l (taken check_method add_omit s t w a e _ r (tally_method t AfterOmit) (new_room k h) (m ∙ ap (tally_method t) y')
-            (G.new_omit_grown s t w d.fits a e d.from d.to (method_name_short s a e d.to b good y) i few_lines q k h v z)
+            (G.new_omit_grown s t w d.fits a e d.from d.to (method_name_short s a e d.to b good y) place few_lines refl k h v z)
             (kept w (rw z (simp length-set)) (omega (arith, few_lines))))
-        line_new false stage v many y' x z l m k f =
+        line_new false stage v many y' x z l m u f =
             let h : t.methods < 31 = omega (arith, x) in
+            let k = nowhere u in
             rw l (taken check_method add_method s t w a e _ r (tally_method t AfterMethod) (new_room k h) (m ∙ ap (tally_method t) y')
-            (G.new_method_grown s t w d.fits a e d.from d.to (method_name_short s a e d.to b good y) i few_lines q k h v z (is_first_method t.stage) refl)
+            (G.new_method_grown s t w d.fits a e d.from d.to (method_name_short s a e d.to b good y) place few_lines refl k h v z (is_first_method t.stage) refl)
             (kept w (rw z (simp length-set)) (omega (arith, few_lines))))
 
 -- ---- by the kind of record

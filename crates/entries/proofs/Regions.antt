@@ -11,12 +11,23 @@ use lib.ListN.{length, take, drop, get_or, set, length-take, length-drop, length
 use lib.Seq.{take-set-le, drop-set-lt, drop-set-add, take-suc, take-suc-set, get_or-take, get_or-drop, drop-cons, take-nil}
 use lib.Arith.{digits_div, digits_mod}
 use borrow.Author.Tests.{lt-ltb, le-ltb, eq-eqb, ne_eqb, eqb-true, eqb-false, le-leb, lt-leb}
-use lib.Dec.{eqb, leb}
+use lib.Dec.{eqb, ltb, leb}
+use Rattle.std.specs.Prelude.{Some, None, unwrap_or}
+use Rattle.std.specs.Prelude.{Option as Maybe}
 use Rattle.text.specs.Texts.{Text, same, starts_with, on_last, part, index_of}
-use Rattle.entries.specs.Tables.{region, stamp_of, packed, stamped, text_at, texts_at, Skips, indexed, spanned, span_at, spans_at}
+use Rattle.entries.specs.Tables.{region, stamp_of, packed, stamped, text_at, texts_at, found, indexed, spanned, span_at, spans_at}
 use Rattle.text.proofs.Truths.{not_so}
 use Rattle.text.proofs.Spans.{same_equal, same_lengths, starts_short, starts_same, from_on}
 use Rattle.names.proofs.Plainly.{same_swap}
+use Rattle.text.proofs.Indices.{index_bound}
+
+-- one is not none
+some_none : (i : ℕ) → Some i ≡ None → ⊥
+some_none i e = let z : ◌≡◌ {A = ℕ} 0 1 = ap number e in omega arith
+  where
+    number : Maybe ℕ → ℕ
+    number None = 1
+    number (Some j) = 0
 
 -- ---- stamps
 -- the empty text's
@@ -315,7 +326,7 @@ module _ (s t : Text) (w : List ℕ) (a n k : ℕ) (room : a + n ≤ length w) w
 
   -- m is where it is found, and none of the first k is it
   module _ (m : ℕ) (v : m ≡ k + index_of t (drop k (texts_at s (region w a n)))) where
-    pub index_hit : (r : Bool) → k < n → r ≡ same (text_at s (get_or w (a + k) 0)) t → r ≡ true → k ≡ m
+    index_hit : (r : Bool) → k < n → r ≡ same (text_at s (get_or w (a + k) 0)) t → r ≡ true → k ≡ m
     unfolding index_of
     index_hit r h q y = sym (v ∙ rw (texts_next h, ← q, y) (add-zero k))
 
@@ -323,11 +334,61 @@ module _ (s t : Text) (w : List ℕ) (a n k : ℕ) (room : a + n ≤ length w) w
     unfolding index_of
     index_miss r h q y = v ∙ rw (texts_next h, ← q, y) (omega arith)
 
-    pub index_none : n ≤ k → k ≡ m
+    index_none : n ≤ k → k ≡ m
     unfolding index_of
     index_none h =
         let l : length (texts_at s (region w a n)) ≤ k = rw (texts_length s (region w a n), region_length w a n room) h in
         sym (v ∙ rw (drop_of_length-le (texts_at s (region w a n)) l) (add-zero k))
+
+-- the search's answer: where the k-th is it, and where none is
+module _ (s t : Text) (w : List ℕ) (a n : ℕ) (room : a + n ≤ length w) where
+  abbrev named : List Text
+  named = texts_at s (region w a n)
+
+  named_length : length named ≡ n
+  named_length = texts_length s (region w a n) ∙ region_length w a n room
+
+  pub found_here : (k : ℕ) (r : Bool) → index_of t named ≡ k + index_of t (drop k named) → k < n → r ≡ same (text_at s (get_or w (a + k) 0)) t → r ≡ true → Some k ≡ found t named
+  found_here k r v h q y =
+      let e : k ≡ index_of t named = index_hit s t w a n k room _ v r h q y in
+      rw (← e, named_length, lt-ltb _ _ h)
+
+  pub found_nowhere : index_of t named ≡ n + index_of t (drop n named) → None ≡ found t named
+  found_nowhere v =
+      let e : n ≡ index_of t named = index_none s t w a n n room _ v (omega arith) in
+      rw (← e, named_length, le-ltb n n (omega arith))
+
+  -- and what an answer says
+  module _ (o : Maybe ℕ) (q : o ≡ found t named) where
+    split : (b : Bool) → ltb (index_of t named) (length named) ≡ b → o ≡ cond b (Some (index_of t named)) None
+    split b e = q ∙ ap (λ (x : Bool). cond x (Some (index_of t named)) None) e
+
+    pub found_some : (i : ℕ) → o ≡ Some i → (i ≡ index_of t named) × (i < n)
+    found_some i k = go (dec_lt (index_of t named) n)
+      where
+        go : Dec (index_of t named < n) → (i ≡ index_of t named) × (i < n)
+        go (yes h) =
+            let z : Some i ≡ Some (index_of t named) = sym k ∙ split true (rw named_length (lt-ltb _ _ h)) in
+            let e : i ≡ index_of t named = cc in
+            (e, rw e h)
+        go (no h) = let z : Some i ≡ None = sym k ∙ split false (rw named_length (le-ltb _ _ (omega arith))) in absurd (some_none i z)
+
+    pub found_none : o ≡ None → n ≤ index_of t named
+    found_none k = go (dec_lt (index_of t named) n)
+      where
+        go : Dec (index_of t named < n) → n ≤ index_of t named
+        go (yes h) = let z : Some (index_of t named) ≡ None = sym (split true (rw named_length (lt-ltb _ _ h))) ∙ k in absurd (some_none (index_of t named) z)
+        go (no h) = omega arith
+
+  -- or n where there is none
+  pub found_or : (o : Maybe ℕ) (r : ℕ) → o ≡ found t named → r ≡ unwrap_or o n → r ≡ index_of t named
+  found_or o r q e = go (dec_lt (index_of t named) n)
+    where
+      go : Dec (index_of t named < n) → r ≡ index_of t named
+      go (yes h) = e ∙ ap (λ (x : Maybe ℕ). unwrap_or x n) (split o q true (rw named_length (lt-ltb _ _ h)))
+      go (no h) =
+          let l : index_of t named ≤ length named = index_bound t named in
+          e ∙ ap (λ (x : Maybe ℕ). unwrap_or x n) (split o q false (rw named_length (le-ltb _ _ (omega arith)))) ∙ omega (arith, l, named_length)
 
 pub indexed_known : (t : Text) (us : List Text) → index_of t us < length us → indexed t us ≡ us
 unfolding indexed

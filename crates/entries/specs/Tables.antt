@@ -1,5 +1,6 @@
 -- The work table: what stands in it as lists, what a record does to them, and the numbers that hold them.
-use Rattle.std.specs.Prelude.{ℕ, ◌+◌, ◌-◌, ◌*◌, ◌/◌, ◌%◌, ◌≤◌, ◌≡◌, Bool, true, false, not, cond, List, [], ◌∷◌, ◌++◌, map, length, take, drop, get_or, eqb, ltb, leb, Result, Ok, Err}
+use Rattle.std.specs.Prelude.{ℕ, ◌+◌, ◌-◌, ◌*◌, ◌/◌, ◌%◌, ◌≤◌, ◌≡◌, Bool, true, false, not, cond, List, [], ◌∷◌, ◌++◌, map, length, take, drop, get_or, eqb, ltb, leb, Some, None, Result, Ok, Err}
+use Rattle.std.specs.Prelude.{Option as Maybe}
 use Rattle.std.proofs.Math.Option.{Option, none, some}
 use Rattle.std.specs.Int.Bits.{bit_or}
 use Rattle.text.specs.Texts.{Text, bytes, same, run, on_last, part, index_of}
@@ -341,9 +342,9 @@ unfoldable pub texts_at : Text → List ℕ → List Text
 unfolding text_at
 texts_at s xs = map (text_at s) xs
 
--- t, looked for among the texts from index j on, is found where it is from index k on
-abbrev pub Skips : Text → List Text → ℕ → ℕ → Type 0
-Skips t us j k = j + index_of t (drop j us) ≡ k + index_of t (drop k us)
+-- the index of t among the texts, and none where it is none of them
+abbrev pub found : Text → List Text → Maybe ℕ
+found t us = cond (ltb (index_of t us) (length us)) (Some (index_of t us)) None
 
 -- nothing looks for a pattern's text among the others: its number is its offset and its length alone
 abbrev pub spanned : ℕ → ℕ → ℕ

@@ -1,9 +1,9 @@
 // The lent work table: where each list of it stands, how one is searched, and how it grows. specs/Tables.antt says what it holds.
-ghost use Rattle.std.specs.Prelude.{◌≡◌, ◌+◌, ◌-◌, ◌*◌, ◌≤◌, ◌<◌, ◌^◌, length, set, get_or, cond};
+ghost use Rattle.std.specs.Prelude.{◌≡◌, ◌+◌, ◌-◌, ◌*◌, ◌≤◌, ◌<◌, ◌^◌, length, set, get_or, cond, IfSome};
 ghost use Rattle.std.specs.Int.Bits.{bit_or};
 ghost use Rattle.entries.specs.Sets.{with_member, without_member, lowest};
-ghost use Rattle.text.specs.Texts.{same, index_of};
-ghost use Rattle.entries.specs.Tables.{stamp_of, packed, text_at, texts_at, region, Skips, spanned, span_at};
+ghost use Rattle.text.specs.Texts.{same};
+ghost use Rattle.entries.specs.Tables.{stamp_of, packed, text_at, texts_at, region, found, spanned, span_at};
 ghost use Rattle.entries.specs.Tallies.{start_tally, tally_at, tally_role, tally_constraint, tally_allowed, tally_collection, tally_pattern, tally_line, tally_method};
 
 use listings::records::Stage;
@@ -37,20 +37,6 @@ pub struct Tally {
     pub patterns: usize,
     pub collections: usize,
     pub constraints: usize,
-}
-
-// The same number, as an index.
-pub fn wide(x: u32) -> usize
-    ensures { result ≡ x }
-{
-    x as usize
-}
-
-// A set of roles is 64 bits wide above this crate.
-pub fn wide_set(x: u32) -> u64
-    ensures { result ≡ x }
-{
-    x as u64
 }
 
 // The last two bytes of t and its length, as a number's last 16 digits hold them. Names often begin alike, and end in a number.
@@ -105,18 +91,19 @@ pub fn is_named(s: &[u8], x: u32, key: u32, t: &[u8]) -> bool
     from <= s.len() && texts::starts_with(t, &s[from..])
 }
 
-// The index of t among the n texts that the table names from `base` on, or n where it is none of them.
-pub fn index(s: &[u8], w: &[u32], base: usize, n: usize, t: &[u8]) -> usize
+// The index of t among the n texts that the table names from `base` on; none where it is none of them.
+pub fn index(s: &[u8], w: &[u32], base: usize, n: usize, t: &[u8]) -> Option<usize>
     requires { base + n ≤ length w.now }
-    ensures { result ≡ index_of t.now (texts_at s.now (region w.now base n)) }
+    ensures is { result ≡ found t.now (texts_at s.now (region w.now base n)) }
+    ensures below { IfSome result (λ i. i < n) }
 {
     let key = stamp(t);
     for k in 0..n {
         if is_named(s, w[base + k], key, t) {
-            return k;
+            return Some(k);
         }
     }
-    n
+    None
 }
 
 // The number i becomes the name of the text of s from a up to e.

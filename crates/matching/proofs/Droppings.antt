@@ -29,9 +29,6 @@ module _ (path out₀ out : List ℕ) (b : Bool) (n i : ℕ) (L : Left path out�
     pub offset_within : n < length out
     offset_within = omega (arith, L.offset, L.same, room.0, room.1)
 
-    pub offset_small : n < 1024
-    offset_small = omega (arith, L.offset, room.0)
-
     turn : (d : Bool) → is_dropped b (get_or path i 0) ≡ d
         → take (cond d n (n + 1)) (set out n (get_or path i 0)) ++ left_of d (drop (i + 1) path) ≡ take n out ++ left_of b (drop i path)
     turn d e = go d (ap (λ (t : Text). left_of b t) (drop-cons path i 0 h) ∙ left_step b (get_or path i 0) (drop (suc i) path) d e)
@@ -56,9 +53,6 @@ module _ (path out₀ out : List ℕ) (b : Bool) (n i : ℕ) (L : Left path out�
         near : (d : Bool) → n + k ≡ cond d n (n + 1) → n + k ≤ i + 1
         near true q = omega (arith, L.offset)
         near false q = omega (arith, L.offset)
-
-  pub left_size : (length path ≤ 1024) × (1024 ≤ length out₀) → n ≤ 1024
-  left_size room = omega (arith, L.offset, L.within, room.0)
 
   -- the path runs out
   module _ (h : length path ≤ i) where

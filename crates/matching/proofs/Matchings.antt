@@ -15,7 +15,6 @@ use Rattle.text.proofs.Spans.{from_on, stripped, stripped_end}
 use Rattle.decisions.specs.Matching.{after_last, last_segment, has_extension, is_under, kind_matches}
 use Rattle.matching.specs.Strengths.{Ends, kind_strength, strength, rooted_strength, starred_strength, start_leading, lead, leading}
 use Rattle.matching.specs.declared.Leading.{Leading}
-use Rattle.matching.proofs.Strengths.{lead_past, lead_takes}
 use Rattle.text.proofs.Indices.{run_step}
 
 -- ---- P or below P
@@ -130,17 +129,6 @@ strength_is t path z e =
     go false false true false e = refl
     go false false false d true = refl
     go false false false d false = refl
-
--- ---- the choice
--- a text that is stronger leads
-pub lead_taken : (path : Text) (x : Leading) (t : Text) (r : ℕ) → r ≡ strength t path → x.most < r
-    → record { seen = x.seen + 1; at = x.seen; most = r } ≡ lead path x t
-lead_taken path x t r e h = rw e (sym (lead_takes path x t (rw e at h)))
-
--- one that is not changes nothing but the count
-pub lead_kept : (path : Text) (x : Leading) (t : Text) (r : ℕ) → r ≡ strength t path → r ≤ x.most
-    → record { seen = x.seen + 1; at = x.at; most = x.most } ≡ lead path x t
-lead_kept path x t r e h = sym (lead_past path x t (rw e at h))
 
 -- ---- the loop: the choice among the first k texts
 -- none of them

@@ -5,11 +5,12 @@ ghost use Rattle.std.specs.Prelude.{◌≡◌, ◌+◌, ◌≤◌, ◌<◌, leng
 ghost use Rattle.decisions.specs.Matching.{is_under};
 ghost use Rattle.decisions.specs.Paths.{is_dropped, dropped};
 ghost use Rattle.decisions.specs.Requests.{is_path};
-ghost use Rattle.matching.specs.Strengths.{Ends, strength, rooted_strength, starred_strength, lead};
+ghost use Rattle.matching.specs.Strengths.{Ends, strength, rooted_strength, starred_strength, lead_by, lead};
 
 use text::texts;
 
 // Whether p is a path: 1 to 1,024 text bytes, the first '/'.
+#[tactic(auto, unfolding(decisions::specs::Requests::is_path))]
 pub fn is_path(p: &[u8]) -> bool
     ensures { result ≡ is_path p.now }
 {
@@ -98,6 +99,7 @@ pub fn starred_strength(t: &[u8], path: &[u8], x: Option<usize>) -> u32
 
 // How strongly a pattern text matches the path, whose ending is x: 0 not at all, 1 as the default, 2 by extension, 3 and more by a
 // prefix, the longer the stronger, 1,000 exactly.
+// Kept: the numbers are what `strength`, `kind_strength` and `kind_strength_lem` speak of, and `numbers` and `grants` with them.
 pub fn strength_of(t: &[u8], path: &[u8], x: Option<usize>) -> u32
     requires { (length t.now ≤ 255) × Ends path.now x }
     ensures { result ≡ strength t.now path.now }
@@ -122,21 +124,29 @@ pub struct Leading {
     pub most: u32,
 }
 
+impl Leading {
+    // The choice with one pattern more, of that strength.
+    pub fn with(self, strength: u32) -> Leading
+        requires { self.seen < 1000 }
+        ensures { result ≡ lead_by self strength }
+    {
+        let seen = self.seen + 1;
+        if self.most < strength {
+            return Leading {
+                seen,
+                at: self.seen,
+                most: strength,
+            };
+        }
+        Leading { seen, ..self }
+    }
+}
+
 // The choice with one pattern more, for a path whose ending is e.
+#[tactic(auto, unfolding(crate::specs::Strengths::lead))]
 pub fn lead_with(x: Leading, p: &[u8], path: &[u8], e: Option<usize>) -> Leading
     requires { (x.seen < 1000) × ((length p.now ≤ 255) × Ends path.now e) }
     ensures { result ≡ lead path.now x p.now }
 {
-    let strength = strength_of(p, path, e);
-    if x.most < strength {
-        return Leading {
-            seen: x.seen + 1,
-            at: x.seen,
-            most: strength,
-        };
-    }
-    Leading {
-        seen: x.seen + 1,
-        ..x
-    }
+    x.with(strength_of(p, path, e))
 }

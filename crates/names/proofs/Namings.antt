@@ -1,20 +1,16 @@
--- The laws of names and patterns: conjunctions and alternatives of tests, taken one test at a time.
-use mathlib.Core.Path.{◌≡◌, refl, sym, ap, ◌∙◌}
-use mathlib.Core.Bool.{Bool, true, false, not, cond, ◌&&◌, ◌||◌}
+-- Conjunctions and alternatives of tests, taken one test at a time.
+use mathlib.Core.Path.{◌≡◌, refl, sym, ◌∙◌}
+use mathlib.Core.Bool.{Bool, true, false, not, ◌&&◌, ◌||◌}
 use mathlib.Core.List.{[], ◌∷◌}
-use Prim.Native.Nat.{ℕ, ◌-◌, ◌≤◌, ◌<◌}
+use Prim.Native.Nat.{ℕ, ◌≤◌, ◌<◌}
 use native.Mathlib.Omega.{arith}
-use lib.ListN.{length, take, drop}
-use lib.Dec.{leb, ltb}
-use borrow.Author.Tests.{le-leb, lt-leb, ltb-true, ltb-false, not-true, not-false}
-use Rattle.text.specs.Texts.{Text, bytes, semicolon, same, has, all, starts_with, ends_with, part}
-use Rattle.text.specs.Bytes.{is_text}
-use Rattle.names.specs.Patterns.{exact, prefix, extension, default, unpermitted, is_extension, kind_of, is_permitted}
-use Rattle.names.specs.Names.{is_pattern}
-use Rattle.text.proofs.Truths.{never, not_so}
-use Rattle.text.proofs.Spans.{same_equal, same_lengths, starts_short, from_on}
+use lib.ListN.{length}
+use lib.Dec.{leb}
+use borrow.Author.Tests.{le-leb, lt-leb, not-true, not-false}
+use Rattle.text.specs.Texts.{Text, same}
+use Rattle.text.proofs.Spans.{same_lengths}
 
--- ---- a conjunction or an alternative, test by test: `search (needs, tests)` goes along it
+-- `search (rules, tests)` goes along them
 -- a conjunction fails with its first part
 pub and_fails : (a b : Bool) → false ≡ a → false ≡ (a && b)
 and_fails a b e = rw (← e)
@@ -94,65 +90,3 @@ pub ruleset tests = (
   empty_same,
   filled_differs,
 )
-
--- ---- the kinds of pattern
--- a text that starts with p is at least as long
-pub starts_long : (p t : Text) (r : Bool) → r ≡ starts_with p t → r ≡ true → length p ≤ length t
-starts_long p t r e h =
-    ltb-false (length t) (length p)
-    (not_so (ltb (length t) (length p)) (λ q. never (starts_with p t) (sym e ∙ h) (sym (starts_short p t (ltb-true (length t) (length p) q)))))
-
--- so what starts with `*.` has two bytes
-pub starred_long : (t : Text) (r : Bool) → r ≡ starts_with (bytes "*.") t → r ≡ true → 2 ≤ length t
-starred_long t r e h = starts_long (bytes "*.") t r e h
-
--- what kind_of's ladder permits
-module _ (t p u e : Text) where
-  ladder_permits : (a b c d x : Bool) →
-      is_permitted (cond a (exact t) (cond b default (cond c (cond d (prefix p) (exact u)) (cond x (extension e) unpermitted)))) ≡ (a || (b || (c || x)))
-  ladder_permits true b c d x = refl
-  ladder_permits false true c d x = refl
-  ladder_permits false false true true x = refl
-  ladder_permits false false true false x = refl
-  ladder_permits false false false d true = refl
-  ladder_permits false false false d false = refl
-
--- `/` starts with `/`
-slash_starts : (t : Text) (x : Bool) → (same t (bytes "/") || (starts_with (bytes "/") t || x)) ≡ (starts_with (bytes "/") t || x)
-unfolding starts_with
-slash_starts t x = go (same t (bytes "/")) refl
-  where
-    go : (b : Bool) → same t (bytes "/") ≡ b → (b || (starts_with (bytes "/") t || x)) ≡ (starts_with (bytes "/") t || x)
-    go true e = ap (λ (u : Text). starts_with (bytes "/") u || x) (sym (same_equal t (bytes "/") e))
-    go false e = refl
-
--- a pattern is permitted that is empty, or starts with `/`, or is `*.` and an extension
-pub permitted : (t : Text) → is_permitted (kind_of t) ≡ (same t [] || (starts_with (bytes "/") t || (starts_with (bytes "*.") t && is_extension (drop 2 t))))
-unfolding kind_of
-permitted t =
-    let x : Bool = starts_with (bytes "*.") t && is_extension (drop 2 t) in
-    ladder_permits (bytes "/") (take (length t - 2) t) t (drop 2 t)
-    (same t []) (same t (bytes "/")) (starts_with (bytes "/") t) (ends_with (bytes "/*") t) x
-    ∙ ap (λ (b : Bool). same t [] || b) (slash_starts t x)
-
--- the same law for a call's result
-pub is_permitted_lem : (t : Text) (z : Bool)
-    → z ≡ (same t [] || (starts_with (bytes "/") t || (starts_with (bytes "*.") t && is_extension (drop 2 t)))) → z ≡ is_permitted (kind_of t)
-is_permitted_lem t z e = e ∙ sym (permitted t)
-
--- a pattern's tests, the length's to the last space's passed: what is left is that it has no `;`, and its kind
-module _ (t : Text) (clean spaced found : Bool) (h : length t ≤ 255) (is : clean ≡ all is_text t) (c : not clean ≡ false)
-    (last : spaced ≡ ends_with (bytes " ") t) (s : spaced ≡ false) (found_is : found ≡ has semicolon t) where
-  left_of_pattern : (not found && is_permitted (kind_of t)) ≡ is_pattern t
-  unfolding is_pattern
-  left_of_pattern = sym (rw (le-leb 0 (length t) (omega arith), le-leb (length t) 255 h, ← is, not-false clean c, ← last, s, ← found_is))
-
-  pub semicolon_fails : found ≡ true → false ≡ is_pattern t
-  semicolon_fails e = ap (λ (b : Bool). not b && is_permitted (kind_of t)) (sym e) ∙ left_of_pattern
-
-  pub without_goes_on : (z : Bool) → found ≡ false → z ≡ is_permitted (kind_of t) → z ≡ is_pattern t
-  without_goes_on z e f = f ∙ ap (λ (b : Bool). not b && is_permitted (kind_of t)) (sym e) ∙ left_of_pattern
-
--- what is behind `*.`, as it is lent
-pub extension_behind : (t : Text) (r : Bool) → r ≡ is_extension (part 2 (length t) t) → r ≡ is_extension (drop 2 t)
-extension_behind t r e = e ∙ ap is_extension (from_on 2 t)

@@ -10,6 +10,7 @@ ghost use Rattle.names.specs.Patterns.{is_extension, kind_of, is_permitted};
 use text::texts;
 
 // Whether t is `*`.
+#[tactic(auto, unfolding(crate::specs::Names::is_star))]
 pub fn is_star(t: &[u8]) -> bool
     ensures { result ≡ is_star t.now }
 {
@@ -17,6 +18,7 @@ pub fn is_star(t: &[u8]) -> bool
 }
 
 // Whether t is a name that `allow` takes: 1 to 64 text bytes, no space first or last.
+#[tactic(auto, unfolding(crate::specs::Names::is_name))]
 pub fn is_name(t: &[u8], clean: bool) -> bool
     requires { clean ≡ all is_text t.now }
     ensures { result ≡ is_name t.now }
@@ -28,6 +30,7 @@ pub fn is_name(t: &[u8], clean: bool) -> bool
 }
 
 // Whether t is a role's name: such a name, and not `*`.
+#[tactic(auto, unfolding(crate::specs::Names::is_role_name))]
 pub fn is_role_name(t: &[u8], clean: bool) -> bool
     requires { clean ≡ all is_text t.now }
     ensures { result ≡ is_role_name t.now }
@@ -36,6 +39,7 @@ pub fn is_role_name(t: &[u8], clean: bool) -> bool
 }
 
 // Whether t is a method: 1 to 24 token bytes.
+#[tactic(auto, unfolding(crate::specs::Names::is_method_name))]
 pub fn is_method_name(t: &[u8]) -> bool
     ensures { result ≡ is_method_name t.now }
 {
@@ -43,6 +47,7 @@ pub fn is_method_name(t: &[u8]) -> bool
 }
 
 // Whether t is a constraint's kind.
+#[tactic(auto, unfolding(crate::specs::Names::is_constraint_kind))]
 pub fn is_constraint_kind(t: &[u8]) -> bool
     ensures { result ≡ is_constraint_kind t.now }
 {
@@ -50,6 +55,7 @@ pub fn is_constraint_kind(t: &[u8]) -> bool
 }
 
 // Whether t can stand behind `*.`: at least one byte, and none of them '.', '/' or '*'.
+#[tactic(auto, unfolding(crate::specs::Patterns::is_extension))]
 pub fn is_extension(t: &[u8]) -> bool
     ensures { result ≡ is_extension t.now }
 {
@@ -60,6 +66,7 @@ pub fn is_extension(t: &[u8]) -> bool
 }
 
 // Whether t is of a kind that 01 permits: empty, or it starts with `/`, or it is `*.` and an extension.
+#[tactic(auto, unfolding(crate::specs::Patterns::kind_of))]
 pub fn is_permitted(t: &[u8]) -> bool
     ensures { result ≡ is_permitted (kind_of t.now) }
 {
@@ -69,6 +76,7 @@ pub fn is_permitted(t: &[u8]) -> bool
 }
 
 // Whether t is a pattern: 0 to 255 text bytes, no space last, no ';', and of a kind that 01 permits.
+#[tactic(auto, unfolding(crate::specs::Names::is_pattern))]
 pub fn is_pattern(t: &[u8], clean: bool) -> bool
     requires { clean ≡ all is_text t.now }
     ensures { result ≡ is_pattern t.now }

@@ -1,12 +1,11 @@
 -- How strong a pattern text is at a stem, and the strongest of a view: laws in the shape of the code.
 use mathlib.Core.Path.{◌≡◌, refl, sym, ap, ap₂, fun_ext, ◌∙◌}
-use mathlib.Core.Bool.{Bool, true, false, not, cond, ◌&&◌, and-true, and-false, or-false}
+use mathlib.Core.Bool.{Bool, true, false, not, cond, ◌&&◌, ◌||◌, and-true, and-false, or-false}
 use mathlib.Core.List.{List, [], ◌∷◌, ◌++◌}
 use Prim.Native.Nat.{ℕ, zero, suc, ◌+◌, ◌-◌, ◌*◌, ◌≤◌, ◌<◌}
-use native.Mathlib.Numerals.{add-one}
 use native.Mathlib.Omega.{arith}
-use lib.ListN.{length, get_or, take, drop, length-append, take-append-drop, drop_of_length-le}
-use lib.Seq.{take_all, length-take-le, get_or-take, drop-cons}
+use lib.ListN.{length, get_or, take, drop, length-append, take-append-drop}
+use lib.Seq.{take_all, length-take-le, get_or-take}
 use lib.Dec.{eqb, ltb, leb}
 use native.Mathlib.Decide.{dec_lt}
 use Rattle.std.proofs.Common.{Option, Some, None, ◌==◌}
@@ -18,17 +17,16 @@ use borrow.Author.Tests.{lt-ltb, le-ltb, eq-eqb, ne_eqb, le-leb, lt-leb}
 use Rattle.text.specs.Texts.{Text, bytes, slash, same, starts_with, ends_with, index_of, run}
 use Rattle.names.specs.Patterns.{PatternKind, exact, prefix, extension, default, unpermitted, kind_of, is_extension, Shape}
 use Rattle.names.proofs.Plainly.{shape, same_swap, starts_plain}
-use Rattle.matching.proofs.Matchings.{under_is, ended_strength, strength_is}
+use Rattle.matching.proofs.Matchings.{strength_is}
+use Rattle.std.specs.Cmp.Lexicographic.{pointwise}
 use Rattle.text.proofs.Indices.{run_step}
-use Rattle.text.proofs.Truths.{never, not_so}
-use Rattle.text.proofs.Spans.{same_equal, same_self, starts_short, starts_is}
+use Rattle.text.proofs.Truths.{never, not_so, eqb_swap}
+use Rattle.text.proofs.Spans.{same_equal, same_self, starts_short, stripped_end}
 use Rattle.decisions.specs.Matching.{is_under}
 use Rattle.matching.specs.Strengths.{kind_strength, rooted_strength, starred_strength, start_leading, lead_by, lead, leading}
 use Rattle.matching.specs.declared.Leading.{Leading}
 use Rattle.grants.specs.Scratch.{best_number, below_strength, stem_strength, leading_by}
-use Rattle.reading.specs.Views.{texts, view_at}
-use Rattle.entries.specs.declared.tables.Tally.{Tally}
-use Rattle.firsts.proofs.Enterings.{Seeking, seek_start}
+use Rattle.reading.specs.Views.{View, texts}
 use Rattle.numbers.specs.Stemming.{line_among, is_firm_text, Findable, Lacking}
 
 -- ---- the line of a text, by the numbers of the first lines
@@ -73,10 +71,10 @@ among_by t us = ap (λ (i : ℕ). cond (ltb i (length us)) (Some i) None) (sym (
     go false i = omega arith
 
 -- so do the numbers of the first lines
-pub line_told : (s : Text) (t : Tally) (w fs : List ℕ) (text : Text) (f n : ℕ) → Findable s t w fs text f → n ≡ length (texts (view_at s t w))
-    → (r : Option ℕ) → r ≡ position (λ y. y == f) (take n fs) → r ≡ line_among text (texts (view_at s t w))
-line_told s t w fs text f n F e r p =
-    let vs : List Text = texts (view_at s t w) in
+pub line_told : (v : View) (fs : List ℕ) (text : Text) (f n : ℕ) → Findable v fs text f → n ≡ length (texts v) → (r : Option ℕ) → r ≡ position (λ y. y == f) (take n fs)
+    → r ≡ line_among text (texts v)
+line_told v fs text f n F e r p =
+    let vs : List Text = texts v in
     let z : length (take n fs) ≡ n = length-take-le n fs (omega (arith, F.room)) in
     let q : position_or_len (λ y. y == f) (take n fs) ≡ index_of text vs =
     same_place text f (take n fs) vs (z ∙ e) (λ k l. let i : k < n = omega arith in rw (get_or-take n fs k 0 i) (F.tells k l)) in
@@ -110,10 +108,10 @@ pub below_is : (p u : Text) (z : ℕ) → z
     ≡ cond (not (starts_with (bytes "/") u)) 0
     (cond (same u (bytes "/")) 1
     (cond (not (ends_with (bytes "/*") u)) 0
-    (cond (is_under (take (length u - 2) u) p) (3 + (length u - 2)) 0)))
+    (cond (is_under (take (length u - 2) u) p) (3 + length (take (length u - 2) u)) 0)))
     → z ≡ stem_strength (prefix p) u
 unfolding stem_strength
-below_is p u z e = (rw (ended_strength u) at e) ∙ go (starts_with (bytes "/") u) refl
+below_is p u z e = e ∙ go (starts_with (bytes "/") u) refl
   where
     x : Bool
     x = starts_with (bytes "*.") u && is_extension (drop 2 u)
@@ -134,7 +132,31 @@ below_is p u z e = (rw (ended_strength u) at e) ∙ go (starts_with (bytes "/") 
     go true q = rooted (same u (bytes "/")) (ends_with (bytes "/*") u) ∙ rw (kind_by_lem u, slashed u q, q)
     go false q = rest (same u []) x ∙ rw (kind_by_lem u, root_slashed u q, q)
 
+-- it does not end with `/*`
+pub below_other : (p u : Text) (z : ℕ) → pointwise eqb (drop (length u - 2) u) (bytes "/*") ≡ false → z ≡ cond (not (starts_with (bytes "/") u)) 0 (cond (same u (bytes "/")) 1 0)
+    → z ≡ stem_strength (prefix p) u
+below_other p u z e q = below_is p u z (q ∙ rw (sym (stripped_end (bytes "/*") u) ∙ e))
+
+-- it does, behind its stem
+pub below_ended : (p u stem : Text) (z : ℕ) → pointwise eqb (drop (length u - 2) u) (bytes "/*") ≡ true → stem ≡ take (length u - 2) u
+    → z ≡ cond (not (starts_with (bytes "/") u)) 0 (cond (same u (bytes "/")) 1 (cond (is_under stem p) (3 + length stem) 0))
+    → z ≡ stem_strength (prefix p) u
+below_ended p u stem z e d q = below_is p u z (q ∙ rw (d, sym (stripped_end (bytes "/*") u) ∙ e))
+
 -- ---- above a path
+-- the path is longer than P: the byte behind P tells, and those before it
+under_more : (p path : Text) → length p < length path → is_under p path ≡ (starts_with p path && eqb (get_or path (length p) 0) slash)
+unfolding is_under starts_with same
+under_more [] [] h = absurd (omega arith)
+under_more [] (y ∷ ys) h = and-true (eqb slash y) ∙ eqb_swap slash y
+under_more (x ∷ xs) [] h = absurd (omega arith)
+under_more (x ∷ xs) (y ∷ ys) h = go (eqb x y) (under_more xs ys (omega arith))
+  where
+    go : (b : Bool) → (same xs ys || starts_with (xs ++ slash ∷ []) ys) ≡ (starts_with xs ys && eqb (get_or ys (length xs) 0) slash)
+        → ((b && same xs ys) || (b && starts_with (xs ++ slash ∷ []) ys)) ≡ ((b && starts_with xs ys) && eqb (get_or ys (length xs) 0) slash)
+    go true e = e
+    go false e = refl
+
 module _ (p path : Text) where
   -- the path has no byte behind P
   pub above_same : (r : Bool) → length path ≤ length p → r ≡ same p path → r ≡ is_under p path
@@ -144,18 +166,15 @@ module _ (p path : Text) where
       e ∙ rw (← starts_short (p ++ slash ∷ []) path (omega arith)) (sym (or-false (same p path)))
 
   module _ (h : length p < length path) where
-    further : (length path ≡ length p → ⊥)
-    further e = omega arith
-
     -- the byte behind P is no `/`
     pub above_apart : (get_or path (length p) 0 ≡ 47 → ⊥) → eqb (get_or path (length p) 0) 47 ≡ is_under p path
     above_apart n =
         ne_eqb (get_or path (length p) 0) slash n
-        ∙ under_is p path false (rw (ne_eqb (length path) (length p) further, ne_eqb (get_or path (length p) 0) slash n) (sym (and-false (starts_with p path))))
+        ∙ sym (under_more p path h ∙ rw (ne_eqb (get_or path (length p) 0) slash n) (and-false (starts_with p path)))
 
     -- it is one: the bytes before it tell
     pub above_start : (r : Bool) → get_or path (length p) 0 ≡ 47 → r ≡ starts_with p path → r ≡ is_under p path
-    above_start r e q = under_is p path r (q ∙ rw (ne_eqb (length path) (length p) further, eq-eqb (get_or path (length p) 0) slash e) (sym (and-true (starts_with p path))))
+    above_start r e q = q ∙ sym (under_more p path h ∙ rw (eq-eqb (get_or path (length p) 0) slash e) (and-true (starts_with p path)))
 
 -- a text as long as P`/*` that is another has no strength below P
 pub above_none : (p u : Text) → same u (p ++ bytes "/*") ≡ false → length p + 2 ≤ length u → 0 ≡ stem_strength (prefix p) u
@@ -190,19 +209,19 @@ module _ (u path : Text) (r : Bool) (r-is : r ≡ starts_with (bytes "/") u) (z 
       st : starts_with (bytes "/") u ≡ true
       st = sym r-is ∙ h
 
-      tests : (a c b : Bool) (m n : ℕ) → m ≡ n → cond (not c) 0 (cond b (3 + m) 0) ≡ cond c (cond b (3 + n) 0) 0
-      tests a true b m n e = rw e
-      tests a false b m n e = refl
+      tests : (c b : Bool) (n : ℕ) → cond (not c) 0 (cond b (3 + n) 0) ≡ cond c (cond b (3 + n) 0) 0
+      tests true b n = refl
+      tests false b n = refl
 
       go : (v : Text) → u ≡ v
-          → cond (not (starts_with (bytes "/") u)) 0 (cond (same u (bytes "/")) 1 (cond (not (ends_with (bytes "/*") u)) 0 (cond (is_under (take (length u - 2) u) path) (3 + (length u - 2)) 0)))
+          → cond (not (starts_with (bytes "/") u)) 0 (cond (same u (bytes "/")) 1 (cond (not (ends_with (bytes "/*") u)) 0 (cond (is_under (take (length u - 2) u) path) (3 + length (take (length u - 2) u)) 0)))
           ≡ cond (eqb (length u) 0) (cond (same (bytes "/") path) 1000 0) (cond (same u (bytes "/")) 1 (cond (starts_with (bytes "/") u) (rooted_strength u path) (starred_strength u path)))
       go [] q = absurd (never (same u []) (rw q (same_self [])) (slashed u st))
       go (x ∷ xs) q =
           let l : (length u ≡ 0 → ⊥) = λ i. let k : length u ≡ suc (length xs) = ap length q in omega arith in
           rw (st, ne_eqb (length u) 0 l, d)
           (ap (λ (n : ℕ). cond (same u (bytes "/")) 1 n)
-          (tests true (ends_with (bytes "/*") u) (is_under (take (length u - 2) u) path) (length u - 2) (length (take (length u - 2) u)) (sym (length-take-le (length u - 2) u (omega arith)))))
+          (tests (ends_with (bytes "/*") u) (is_under (take (length u - 2) u) path) (length (take (length u - 2) u))))
 
   -- any other is by the path's ending
   pub exact_starred : same path (bytes "/") ≡ false → r ≡ false → z ≡ starred_strength u path → z ≡ stem_strength (exact path) u
@@ -231,17 +250,17 @@ lacked (v ∷ vs) t k h l = go (same v t) refl h k l (λ j. lacked vs t j)
     go false e h zero l next = e
     go false e h (suc k) l next = next k (omega arith) (omega arith)
 
-module _ (s : Text) (t : Tally) (w : List ℕ) (text : Text) (L : Lacking s t w text) where
+module _ (v : View) (text : Text) (L : Lacking v text) where
   -- each line has another
-  pub lacks_each : (n k : ℕ) (u : Text) → n ≡ length (texts (view_at s t w)) → k < n → u ≡ get_or (texts (view_at s t w)) k [] → same u text ≡ false
-  lacks_each n k u e h q = rw q (lacked (texts (view_at s t w)) text k L.lacks (rw e at h))
+  pub lacks_each : (n k : ℕ) (u : Text) → n ≡ length (texts v) → k < n → u ≡ get_or (texts v) k [] → same u text ≡ false
+  lacks_each n k u e h q = rw q (lacked (texts v) text k L.lacks (rw e at h))
 
   -- P`/*` as its P
-  pub lacks_ended : (c : Bool) → c ≡ ends_with (bytes "/*") text → c ≡ true → Lacking s t w (take (length text - 2) text ++ bytes "/*")
+  pub lacks_ended : (p : Text) → pointwise eqb (drop (length text - 2) text) (bytes "/*") ≡ true → p ≡ take (length text - 2) text → Lacking v (p ++ bytes "/*")
   unfolding ends_with
-  lacks_ended c e h =
-      let d : drop (length text - 2) text ≡ bytes "/*" = same_equal (drop (length text - 2) text) (bytes "/*") (sym e ∙ h) in
-      rw (← d, take-append-drop (length text - 2) text) L
+  lacks_ended p e q =
+      let d : drop (length text - 2) text ≡ bytes "/*" = same_equal (drop (length text - 2) text) (bytes "/*") (sym (stripped_end (bytes "/*") text) ∙ e) in
+      rw (q, ← d, take-append-drop (length text - 2) text) L
 
 -- the kind of a text that starts with `*.`
 pub starred_kind : (u : Text) → starts_with (bytes "*.") u ≡ true → kind_of u ≡ cond (is_extension (drop 2 u)) (extension (drop 2 u)) unpermitted
@@ -334,15 +353,16 @@ module _ (t : Text) (firm : is_firm_text t ≡ true) (full : length t ≡ 0 → 
       go true e h = absurd (never false h refl)
       go false e h = (e, h)
 
-  module _ (c : Bool) (c-is : c ≡ ends_with (bytes "/*") t) (ts : List Text) (x : Leading) where
-    pub found_prefix : c ≡ true → x ≡ leading_by (stem_strength (prefix (take (length t - 2) t))) ts → x ≡ leading_by (stem_strength (kind_of t)) ts
-    found_prefix e i =
-        let k : kind_of t ≡ prefix (take (length t - 2) t) = kind_by_lem t ∙ rw (full_text, rooted.0, rooted.1, ← c-is, e) in
-        i ∙ rw k
+  module _ (ts : List Text) (x : Leading) where
+    pub found_prefix : (p : Text) → pointwise eqb (drop (length t - 2) t) (bytes "/*") ≡ true → p ≡ take (length t - 2) t → x ≡ leading_by (stem_strength (prefix p)) ts
+        → x ≡ leading_by (stem_strength (kind_of t)) ts
+    found_prefix p e q i =
+        let k : kind_of t ≡ prefix (take (length t - 2) t) = kind_by_lem t ∙ rw (full_text, rooted.0, rooted.1, sym (stripped_end (bytes "/*") t) ∙ e) in
+        i ∙ rw (q, k)
 
-    pub found_exact : c ≡ false → x ≡ leading_by (stem_strength (exact t)) ts → x ≡ leading_by (stem_strength (kind_of t)) ts
+    pub found_exact : pointwise eqb (drop (length t - 2) t) (bytes "/*") ≡ false → x ≡ leading_by (stem_strength (exact t)) ts → x ≡ leading_by (stem_strength (kind_of t)) ts
     found_exact e i =
-        let k : kind_of t ≡ exact t = kind_by_lem t ∙ rw (full_text, rooted.0, rooted.1, ← c-is, e) in
+        let k : kind_of t ≡ exact t = kind_by_lem t ∙ rw (full_text, rooted.0, rooted.1, sym (stripped_end (bytes "/*") t) ∙ e) in
         i ∙ rw k
 
   -- it is not `/`

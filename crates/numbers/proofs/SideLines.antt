@@ -1,13 +1,12 @@
 -- The table of a side, line by line: laws in the shape of the code.
-use mathlib.Core.Path.{◌≡◌, refl, sym, ap, ap₂, subst, ◌∙◌}
-use mathlib.Core.Bool.{Bool, true, false, cond, ◌&&◌, ◌||◌, and-false, or-true, or-false}
+use mathlib.Core.Path.{◌≡◌, refl, sym, ap, ap₂, ◌∙◌}
+use mathlib.Core.Bool.{Bool, true, false, ◌&&◌, ◌||◌, and-false, or-true, or-false}
 use mathlib.Core.List.{List, []}
-use Prim.Native.Nat.{ℕ, suc, ◌+◌, ◌-◌, ◌*◌, ◌/◌, ◌%◌, ◌^◌, ◌≤◌, ◌<◌}
+use Prim.Native.Nat.{ℕ, ◌+◌, ◌-◌, ◌*◌, ◌/◌, ◌%◌, ◌^◌, ◌≤◌, ◌<◌}
 use native.Mathlib.Nat.{mod-eq_of_lt, one-mul}
-use native.Mathlib.Numerals.{add-one}
 use native.Mathlib.Decide.{dec_lt}
 use native.Mathlib.Omega.{arith}
-use lib.ListN.{length, get_or, take, drop, set, length-drop, drop_of_length-le}
+use lib.ListN.{length, get_or, take, drop, length-drop}
 use lib.Seq.{length-take-le, get_or-drop}
 use lib.Pow.{pow-lt}
 use lib.Dec.{eqb, ltb}
@@ -15,18 +14,14 @@ use lib.Bits.{bit_or}
 use borrow.Author.Tests.{eqb-true, lt-ltb, le-ltb, eq-eqb, ne_eqb}
 use Rattle.text.specs.Texts.{Text, index_of, part}
 use Rattle.entries.specs.Sets.{digit}
-use Rattle.reading.specs.Holds.{Holds}
-use Rattle.reading.specs.Views.{View, texts, cover_at, access_at, view_at}
+use Rattle.reading.specs.Views.{View, texts, cover_at, access_at, ProperView}
 use Rattle.reading.specs.declared.held.Access.{Access}
-use Rattle.entries.specs.declared.tables.Tally.{Tally}
 use Rattle.entries.proofs.Digits.{set_same, set_none, set_with}
 use Rattle.grants.specs.Sides.{LineIn, renumbered, access_number, access_roles, gap_at}
-use Rattle.grants.proofs.Stores.{Filled, fill_start, fill_more, fill_all}
 use Rattle.firsts.specs.Keeping.{Kept}
-use Rattle.firsts.proofs.Keepings.{kept_then, part_at, part_length, part_behind}
-use Rattle.numbers.specs.Writes.{LinesWritten, Lent, LineHeld, Mapped, view_from, access_number_at, renumbered_by, roles_by, Plain, SideWritten}
+use Rattle.firsts.proofs.Keepings.{kept_then, part_at, part_length}
+use Rattle.numbers.specs.Writes.{LinesWritten, Mapped, access_number_at, renumbered_by, roles_by, Plain, SideWritten}
 use Rattle.numbers.specs.Gaps.{Gapable, GapsLent}
-use Rattle.numbers.proofs.Writings.{line_held, lent_still, view_still}
 use Rattle.std.proofs.Common.{Option, ◌==◌}
 use Rattle.std.specs.Option.{unwrap_or}
 use Rattle.std.specs.List.{position}
@@ -34,30 +29,21 @@ use Rattle.text.proofs.Indices.{index_bound}
 use Rattle.numbers.proofs.Searchings.{told}
 
 -- ---- the numbers of a view
-module _ (s : Text) (t : Tally) (w : List ℕ) (H : Holds s t w) where
-  -- its roles in the map
-  pub roles_start : (n : ℕ) (f : ℕ → ℕ) (out : List ℕ) → n ≡ length (view_at s t w).roles → length out ≡ 32 → Filled 32 n 0 f out
-  roles_start n f out e z = fill_start 32 n f out z (omega (arith, H.proper.few_roles))
-
+module _ (v : View) (P : ProperView v) where
   -- the index of a role is a small number
-  pub role_small : (m : Text) (r : ℕ) → r ≡ index_of m (view_at s t w).roles → r < 4294967296
-  role_small m r e = omega (arith, H.proper.few_roles, index_bound m (view_at s t w).roles)
+  pub role_small : (m : Text) (r : ℕ) → r ≡ index_of m v.roles → r < 4294967296
+  role_small m r e = omega (arith, P.few_roles, index_bound m v.roles)
 
   -- so is a gap
-  pub gap_small : (k r : ℕ) → r ≡ gap_at (view_at s t w) k → r < 4294967296
+  pub gap_small : (k r : ℕ) → r ≡ gap_at v k → r < 4294967296
   unfolding gap_at
   gap_small k r e =
-      let ts : List Text = texts (view_at s t w) in
-      omega (arith, H.proper.few_patterns, index_bound (get_or ts k []) (drop (k + 1) ts), length-drop (k + 1) ts)
+      let ts : List Text = texts v in
+      omega (arith, P.few_patterns, index_bound (get_or ts k []) (drop (k + 1) ts), length-drop (k + 1) ts)
 
--- one role more
-pub map_more : (ns os : List Text) (n i : ℕ) (out : List ℕ) (name : Text) (v : ℕ) → Filled 32 n i (λ j. index_of (get_or ns j []) os) out → i < n
-    → name ≡ get_or ns i [] → v ≡ index_of name os → Filled 32 n (i + 1) (λ j. index_of (get_or ns j []) os) (set out i v)
-map_more ns os n i out name v F h p q = fill_more 32 n (λ j. index_of (get_or ns j []) os) out i v F h (q ∙ ap (λ (u : Text). index_of u os) p)
-
--- all of the roles have their index
-pub map_all : (ns os : List Text) (n i : ℕ) (map : List ℕ) → Filled 32 n i (λ j. index_of (get_or ns j []) os) map → n ≤ i → n ≡ length ns → Mapped ns os map
-map_all ns os n i map F h e = let r = fill_all 32 n (λ j. index_of (get_or ns j []) os) map i (length ns) F h e in record { size = r.0; indices = r.1 }
+  -- it has few roles
+  pub own_few : (n : ℕ) → n ≡ length v.roles → n ≤ 32
+  own_few n e = omega (arith, P.few_roles)
 
 -- ---- one line
 -- its access
@@ -69,10 +55,6 @@ access_is v k a r p q = q ∙ ap access_number p
 pub roles_are : (map : List ℕ) (n own : ℕ) (v : View) (k : ℕ) (a : Access) (x r : ℕ) → a ≡ access_at v k → x ≡ access_roles a → own ≡ length v.roles → r ≡ renumbered_by map n own x → r ≡ roles_by map n v k
 unfolding roles_by
 roles_are map n own v k a x r p q o e = e ∙ ap₂ (renumbered_by map n) o (q ∙ ap access_roles p)
-
--- a view has few roles
-pub own_few : (s : Text) (t : Tally) (w : List ℕ) → Holds s t w → (n : ℕ) → n ≡ length (view_at s t w).roles → n ≤ 32
-own_few s t w H n e = omega (arith, H.proper.few_roles)
 
 -- ---- sets in other numbers
 -- role j of the map is in the set x of `own` roles
@@ -167,13 +149,13 @@ renumbered_by_lem ns os map x M = set_same 32 (λ i. ltb i (length ns) && is_in 
     go i (no l) = rw (le-ltb i (length ns) (omega arith))
 
 -- ---- gaps
-module _ (s : Text) (t : Tally) (w fs : List ℕ) (k n : ℕ) (G : Gapable s t w fs k) (n-is : n ≡ length (texts (view_at s t w))) where
+module _ (v : View) (fs : List ℕ) (k n : ℕ) (G : Gapable v fs k) (n-is : n ≡ length (texts v)) where
   abbrev vs : List Text
-  vs = texts (view_at s t w)
+  vs = texts v
 
   -- the first of the numbers behind it that is the same
   pub gap_told : (f : ℕ) (r : Option ℕ) (z : ℕ) → f ≡ get_or fs k 0 → r ≡ position (λ y. y == f) (take (n - (k + 1)) (drop (k + 1) fs))
-      → z ≡ unwrap_or r (length (take (n - (k + 1)) (drop (k + 1) fs))) → z ≡ gap_at (view_at s t w) k
+      → z ≡ unwrap_or r (length (take (n - (k + 1)) (drop (k + 1) fs))) → z ≡ gap_at v k
   unfolding gap_at
   gap_told f r z e p q =
       let few : n - (k + 1) ≤ length (drop (k + 1) fs) = omega (arith, G.room, length-drop (k + 1) fs) in
@@ -182,76 +164,27 @@ module _ (s : Text) (t : Tally) (w fs : List ℕ) (k n : ℕ) (G : Gapable s t w
       (told (get_or vs k []) f (drop (k + 1) fs) (drop (k + 1) vs) (n - (k + 1)) all few
       (λ j h. rw (get_or-drop (k + 1) fs j 0, get_or-drop (k + 1) vs j [], e) (G.alike (k + 1 + j) k (omega arith) G.inside)))
 
--- the numbers of the first lines stay while the gaps are written
-pub gap_lent : (s : Text) (t : Tally) (from f at n k : ℕ) (w₀ w : List ℕ) → GapsLent s t from f at 128 w₀ → n ≡ length (texts (view_from s t from w₀)) → k < n → Kept at (at + n) w₀ w
-    → LineHeld s t from k w × ((f + 128 ≤ length w) × Gapable s t (part from (from + 1024) w) (part f (f + 128) w) k)
-gap_lent s t from f at n k w₀ w G e h K =
-    let H : LineHeld s t from k w = line_held s t from at w₀ G.lent n k w e h K in
-    let v : view_from s t from w ≡ view_from s t from w₀ = view_still s t from at 128 at (at + n) w₀ w G.lent K G.lent.clear in
-    let p : part f (f + 128) w ≡ part f (f + 128) w₀ = part_behind at (at + n) w₀ w K f (f + 128) (omega (arith, G.apart, G.lent.held.proper.few_patterns)) (omega arith) G.room in
-    let z : length (part f (f + 128) w₀) ≡ f + 128 - f = part_length f (f + 128) w₀ (omega arith) G.room in (
-      H,
-      (
-        omega (arith, G.room, K.size),
-        record {
-          holds = H.held;
-          inside = H.inside;
-          room = rw p (omega (arith, H.held.proper.few_patterns));
-          alike = rw (v, p) G.alike;
-        },
-      ),
-    )
-
 -- ---- the parts put together
-module _ (s : Text) (t : Tally) (from at : ℕ) (w₀ : List ℕ) (L : Lent s t from at 512 w₀) where
-  abbrev l : View
-  l = view_from s t from w₀
-
+module _ (v : View) (P : ProperView v) (at : ℕ) (w₀ : List ℕ) where
   abbrev n : ℕ
-  n = length (texts l)
+  n = length (texts v)
 
   few : n ≤ 128
-  few = omega (arith, L.held.proper.few_patterns)
+  few = P.few_patterns
 
-  -- a part of the side
-  sub : (b : ℕ) (w : List ℕ) → Lent s t from at 512 w → b ≤ 384 → Lent s t from (at + b) 128 w
-  sub b w M h = record { held = M.held; first = M.first; clear = omega (arith, M.clear); room = omega (arith, M.room) }
+  module _ (room : at + 512 ≤ length w₀) (w₁ : List ℕ) (C : LinesWritten v cover_at at w₀ w₁) where
+    pub side_second : at + 128 + 128 ≤ length w₁
+    side_second = omega (arith, room, C.kept.size)
 
-  pub side_first : Lent s t from at 128 w₀
-  side_first = record { held = L.held; first = L.first; clear = L.clear; room = omega (arith, L.room) }
-
-  -- what is written of the view that is held now is written of the one that was held first
-  of_first : (g : View → ℕ → ℕ) (a e b : ℕ) (w₁ w₂ : List ℕ) → Kept a e w₀ w₁ → 2048 ≤ a → LinesWritten (view_from s t from w₁) g b w₁ w₂ → LinesWritten l g b w₁ w₂
-  of_first g a e b w₁ w₂ K h W = subst (λ (v : View). LinesWritten v g b w₁ w₂) (view_still s t from at 512 a e w₀ w₁ L K h) W
-
-  module _ (w₁ : List ℕ) (C : LinesWritten l cover_at at w₀ w₁) where
-    lent_1 : Lent s t from at 512 w₁
-    lent_1 = lent_still s t from at 512 at (at + n) w₀ w₁ L C.kept L.clear
-
-    pub side_second : Lent s t from (at + 128) 128 w₁
-    side_second = sub 128 w₁ lent_1 (omega arith)
-
-    module _ (w₂ : List ℕ) (M' : LinesWritten (view_from s t from w₁) access_number_at (at + 128) w₁ w₂) where
-      M : LinesWritten l access_number_at (at + 128) w₁ w₂
-      M = of_first access_number_at at (at + n) (at + 128) w₁ w₂ C.kept L.clear M'
-
+    module _ (w₂ : List ℕ) (M : LinesWritten v access_number_at (at + 128) w₁ w₂) where
       kept_2 : Kept at (at + 256) w₀ w₂
       kept_2 = kept_then at (at + 256) at (at + n) (at + 128) (at + 128 + n) w₀ w₁ w₂ C.kept M.kept (omega arith) (omega (arith, few)) (omega arith) (omega (arith, few))
 
-      side_fourth : Lent s t from (at + 384) 128 w₂
-      side_fourth = sub 384 w₂ (lent_still s t from at 512 at (at + 256) w₀ w₂ L kept_2 L.clear) (omega arith)
+      pub side_gaps : (fs : List ℕ) → GapsLent v fs at 512 w₀ → GapsLent v fs (at + 384) 128 w₂
+      side_gaps fs G = record { proper = G.proper; room = omega (arith, room, kept_2.size); firsts = G.firsts; alike = G.alike }
 
-      -- with the numbers of the first lines behind all
-      pub side_gaps : (f : ℕ) → GapsLent s t from f at 512 w₀ → GapsLent s t from f (at + 384) 128 w₂
-      side_gaps f G = record {
-        lent = side_fourth;
-        apart = omega (arith, G.apart);
-        room = omega (arith, G.room, kept_2.size);
-        alike = rw (view_still s t from at 512 at (at + 256) w₀ w₂ L kept_2 L.clear, part_behind at (at + 256) w₀ w₂ kept_2 f (f + 128) (omega (arith, G.apart)) (omega arith) G.room) G.alike;
-      }
-
-      pub side_plain : (w₃ : List ℕ) → LinesWritten (view_from s t from w₂) gap_at (at + 384) w₂ w₃ → Plain l at w₀ w₃
-      side_plain w₃ G' = let G = of_first gap_at at (at + 256) (at + 384) w₂ w₃ kept_2 L.clear G' in record {
+      pub side_plain : (w₃ : List ℕ) → LinesWritten v gap_at (at + 384) w₂ w₃ → Plain v at w₀ w₃
+      side_plain w₃ G = record {
         kept = kept_then at (at + 512) at (at + 256) (at + 384) (at + 384 + n) w₀ w₂ w₃ kept_2 G.kept (omega arith) (omega arith) (omega arith) (omega (arith, few));
         covers = λ k h. G.kept.before (at + k) (omega (arith, few)) ∙ M.kept.before (at + k) (omega (arith, few)) ∙ C.values k h;
         accesses = λ k h. G.kept.before (at + 128 + k) (omega (arith, few)) ∙ M.values k h;
@@ -259,41 +192,38 @@ module _ (s : Text) (t : Tally) (from at : ℕ) (w₀ : List ℕ) (L : Lent s t 
       }
 
   -- the roles behind the rest
-  module _ (w₁ : List ℕ) (P : Plain l at w₀ w₁) where
-    pub side_third : Lent s t from (at + 256) 128 w₁
-    side_third = sub 256 w₁ (lent_still s t from at 512 at (at + 512) w₀ w₁ L P.kept L.clear) (omega arith)
+  module _ (room : at + 512 ≤ length w₀) (w₁ : List ℕ) (Q : Plain v at w₀ w₁) where
+    pub side_third : at + 256 + 128 ≤ length w₁
+    side_third = omega (arith, room, Q.kept.size)
 
-    module _ (ns : List Text) (map : List ℕ) (count : ℕ) (M : Mapped ns l.roles map) (all : count ≡ length ns) (w : List ℕ)
-        (R' : LinesWritten (view_from s t from w₁) (roles_by map count) (at + 256) w₁ w) where
-      R : LinesWritten l (roles_by map count) (at + 256) w₁ w
-      R = of_first (roles_by map count) at (at + 512) (at + 256) w₁ w P.kept L.clear R'
-
+    module _ (ns : List Text) (map : List ℕ) (count : ℕ) (M : Mapped ns v.roles map) (all : count ≡ length ns) (w : List ℕ)
+        (R : LinesWritten v (roles_by map count) (at + 256) w₁ w) where
       -- the roles of line k by the map are those in the numbers of ns
-      in_numbers : (k : ℕ) → roles_by map count l k ≡ renumbered ns l.roles (access_roles (access_at l k))
+      in_numbers : (k : ℕ) → roles_by map count v k ≡ renumbered ns v.roles (access_roles (access_at v k))
       unfolding roles_by
-      in_numbers k = rw all (renumbered_by_lem ns l.roles map (access_roles (access_at l k)) M)
+      in_numbers k = rw all (renumbered_by_lem ns v.roles map (access_roles (access_at v k)) M)
 
       kept_all : Kept at (at + 512) w₀ w
-      kept_all = kept_then at (at + 512) at (at + 512) (at + 256) (at + 256 + n) w₀ w₁ w P.kept R.kept (omega arith) (omega arith) (omega arith) (omega (arith, few))
+      kept_all = kept_then at (at + 512) at (at + 512) (at + 256) (at + 256 + n) w₀ w₁ w Q.kept R.kept (omega arith) (omega arith) (omega arith) (omega (arith, few))
 
       -- a number of the side
       inside : (b k : ℕ) → b + k < 512 → get_or (part at (at + 512) w) (b + k) 0 ≡ get_or w (at + b + k) 0
       inside b k h = let e : at + (b + k) ≡ at + b + k = omega arith in rw (← e) (part_at at (at + 512) (b + k) w (omega arith))
 
-      line : (k : ℕ) → k < n → LineIn ns l (part at (at + 512) w) k
+      line : (k : ℕ) → k < n → LineIn ns v (part at (at + 512) w) k
       unfolding access_number_at
       line k h = record {
-        cover = part_at at (at + 512) k w (omega (arith, few)) ∙ R.kept.before (at + k) (omega (arith, few)) ∙ P.covers k h;
-        access = inside 128 k (omega (arith, few)) ∙ R.kept.before (at + 128 + k) (omega (arith, few)) ∙ P.accesses k h;
+        cover = part_at at (at + 512) k w (omega (arith, few)) ∙ R.kept.before (at + k) (omega (arith, few)) ∙ Q.covers k h;
+        access = inside 128 k (omega (arith, few)) ∙ R.kept.before (at + 128 + k) (omega (arith, few)) ∙ Q.accesses k h;
         roles = inside 256 k (omega (arith, few)) ∙ R.values k h ∙ in_numbers k;
-        gap = inside 384 k (omega (arith, few)) ∙ R.kept.behind (at + 384 + k) (omega (arith, few)) ∙ P.gaps k h;
+        gap = inside 384 k (omega (arith, few)) ∙ R.kept.behind (at + 384 + k) (omega (arith, few)) ∙ Q.gaps k h;
       }
 
-      pub side_written : SideWritten ns l at w₀ w
+      pub side_written : SideWritten ns v at w₀ w
       side_written = record {
         kept = kept_all;
         side = record {
-          size = part_length at (at + 512) w (omega arith) (omega (arith, L.room, kept_all.size)) ∙ omega arith;
+          size = part_length at (at + 512) w (omega arith) (omega (arith, room, kept_all.size)) ∙ omega arith;
           lines = line;
         };
       }

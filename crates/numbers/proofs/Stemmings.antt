@@ -8,25 +8,21 @@ use native.Mathlib.Decide.{dec_lt}
 use lib.ListN.{length, get_or, take, drop, length-append, get_or-append}
 use lib.Seq.{get_or-append-add}
 use lib.Dec.{eqb, ltb, leb, leb-suc-suc, leb-zero}
-use borrow.Author.Tests.{lt-ltb, le-ltb, ltb-true, le-leb, lt-leb, leb-true, eq-eqb, ne_eqb, not-true, not-false}
+use borrow.Author.Tests.{lt-ltb, le-ltb, ltb-true, le-leb, leb-true, eq-eqb, ne_eqb, not-true, not-false}
 use Rattle.text.specs.Texts.{Text, bytes, part, same, starts_with, ends_with, member, index_of, run}
 use Rattle.names.specs.Patterns.{PatternKind, exact, prefix, extension, default, unpermitted, kind_of, is_extension, is_permitted, Shape}
 use Rattle.text.proofs.Truths.{never, not_so}
 use Rattle.text.proofs.Spans.{same_equal, same_self}
 use Rattle.text.proofs.Indices.{index_bound, index_member, index_front, index_here, member_at}
 use Rattle.names.proofs.Plainly.{shape}
-use Rattle.reading.specs.Holds.{Holds}
-use Rattle.reading.specs.Views.{texts, view_at}
-use Rattle.entries.specs.declared.tables.Tally.{Tally}
+use Rattle.reading.specs.Views.{View, texts, ProperView}
 use Rattle.matching.specs.Strengths.{kind_strength, start_leading, lead_by}
 use Rattle.matching.specs.declared.Leading.{Leading}
 use Rattle.matching.proofs.Strengths.{at_listed}
 use Rattle.trials.proofs.Bounds.{pattern_permitted}
 use Rattle.grants.specs.Scratch.{best_number, is_firm_in, sort_of, stem_strength, leading_by, stem_best}
 use Rattle.grants.proofs.OwnStems.{own_first}
-use Rattle.firsts.specs.declared.pairs.Pair.{Pair}
 use Rattle.firsts.proofs.Keepings.{part_at, part_length}
-use Rattle.numbers.specs.Writes.{Both, old_texts, new_texts}
 use Rattle.numbers.specs.Stemming.{line_among, is_firm_text, soft_best, Findable, Lacking, BestSought, Spottable, SpotIs, last_stem, Fresh, FreshIs, Stemmable, StemOf}
 use Rattle.numbers.specs.declared.stems.Stem.{Stem}
 use Rattle.numbers.specs.declared.stems.Spot.{Spot}
@@ -78,23 +74,23 @@ led_at g (t ∷ ts) x h = let r = led_at g ts (lead_by x (g t)) (go (ltb x.most 
     go true = omega arith
     go false = omega arith
 
-module _ (s : Text) (t : Tally) (w : List ℕ) (H : Holds s t w) where
+module _ (v : View) (P : ProperView v) where
   abbrev ts : List Text
-  ts = texts (view_at s t w)
+  ts = texts v
 
   pub led_small : (g : Text → ℕ) (x : Leading) → x ≡ leading_by g ts → x.at < 1000
   unfolding leading_by
   led_small g x e =
       let r = led_at g ts start_leading (omega arith) in
       let q : x.at ≡ (leading_by g ts).at = ap (λ (y : Leading). y.at) e in
-      omega (arith, H.proper.few_patterns)
+      omega (arith, P.few_patterns)
 
   -- the lines are few, and so is the index of a text among them
   pub lines_few : (n : ℕ) → n ≡ length ts → n ≤ 128
-  lines_few n e = omega (arith, H.proper.few_patterns)
+  lines_few n e = omega (arith, P.few_patterns)
 
   pub index_few : (u : Text) (k : ℕ) → k ≡ index_of u ts → k ≤ 128
-  index_few u k e = omega (arith, H.proper.few_patterns, index_bound u ts)
+  index_few u k e = omega (arith, P.few_patterns, index_bound u ts)
 
 -- ---- where a text is among others
 module _ (t : Text) (us : List Text) where
@@ -152,12 +148,12 @@ soft_line t us root d None q = rw (le-ltb (index_of t us) (length us) (lost_amon
 soft_line t us root d (Some j) q = let f = found_among t us j q in rw (d, ← f.0, lt-ltb j (length us) f.1)
 
 -- ---- the best line of the stem of a text
-module _ (s : Text) (t : Tally) (w : List ℕ) (u : Text) (k : Option ℕ) (root : ℕ) (P : BestSought s t w u k root) where
+module _ (v : View) (u : Text) (k : Option ℕ) (root : ℕ) (P : BestSought v u k root) where
   abbrev us : List Text
-  us = texts (view_at s t w)
+  us = texts v
 
   pub line_few : (j : ℕ) → k ≡ Some j → j ≤ 128
-  line_few j e = index_few s t w P.holds u j (found_among u us j (sym e ∙ P.line)).0
+  line_few j e = index_few v P.proper u j (found_among u us j (sym e ∙ P.line)).0
 
   module _ (r : Bool) (r-is : r ≡ is_firm_text u) where
     -- an extension, or `/`
@@ -193,15 +189,15 @@ module _ (s : Text) (t : Tally) (w : List ℕ) (u : Text) (k : Option ℕ) (root
       firm_text = sym r-is ∙ not-false r h
 
       -- it is none of the lines
-      pub own_none : k ≡ None → Lacking s t w u
-      own_none e = record { holds = P.holds; lacks = lost_among u us (sym e ∙ P.line) }
+      pub own_none : k ≡ None → Lacking v u
+      own_none e = record { proper = P.proper; lacks = lost_among u us (sym e ∙ P.line) }
 
       -- its own line
       pub own_is : (j : ℕ) → k ≡ Some j → (p : ℕ) → p ≡ 2 * (j + 1) + 1 → p ≡ stem_best us (kind_of u)
       own_is j e p z =
           let f = found_among u us j (sym e ∙ P.line) in
           let m : member u us ≡ true = sym (index_member u us) ∙ lt-ltb (index_of u us) (length us) (omega (arith, f.0, f.1)) in
-          z ∙ rw f.0 (sym (own_first us P.holds.proper.short_patterns u m firm))
+          z ∙ rw f.0 (sym (own_first us P.proper.short_patterns u m firm))
 
 -- what was found by searching
 pub searched : (us : List Text) (u : Text) (x : Leading) (r : ℕ) → x ≡ leading_by (stem_strength (kind_of u)) us → r ≡ best_number x → r ≡ stem_best us (kind_of u)
@@ -248,19 +244,19 @@ firsts_same ts t u h l = go (same t u) refl
 pub among_lines : (ts : List Text) (i : ℕ) → i < length ts → index_of (get_or ts i []) ts < length ts
 among_lines ts i h = ltb-true (index_of (get_or ts i []) ts) (length ts) (index_member (get_or ts i []) ts ∙ member_at ts i h)
 
-module _ (old new : Text) (wo wn : List ℕ) (pair : Pair) (fs : List ℕ) (text : Text) (f : ℕ) (S : Spottable old new wo wn pair fs text f) where
+module _ (old new : View) (fs : List ℕ) (text : Text) (f : ℕ) (S : Spottable old new fs text f) where
   abbrev ns : List Text
-  ns = new_texts new wn pair
+  ns = texts new
 
   abbrev os : List Text
-  os = old_texts old wo pair
+  os = texts old
 
   module _ (n : ℕ) (n-is : n ≡ length ns) (x : ℕ) (x-is : x ≡ f) where
     pub spot_few : n + 128 ≤ 257
-    spot_few = omega (arith, S.both.news.proper.few_patterns)
+    spot_few = omega (arith, S.news.few_patterns)
 
     pub spot_fits : n + 128 ≤ length fs
-    spot_fits = omega (arith, S.both.news.proper.few_patterns, S.size)
+    spot_fits = omega (arith, S.news.few_patterns, S.size)
 
     -- old has it alone
     pub spot_old : n ≤ x → SpotIs os ns text (record { in_old = Some (x - n); in_new = None })
@@ -278,12 +274,11 @@ module _ (old new : Text) (wo wn : List ℕ) (pair : Pair) (fs : List ℕ) (text
 
     module _ (h : x < n) where
       -- the numbers of old's lines tell
-      pub spot_find : Findable old pair.old wo (part n (n + 128) fs) text f
+      pub spot_find : Findable old (part n (n + 128) fs) text f
       spot_find = record {
-        holds = S.both.olds;
-        room = omega (arith, S.both.olds.proper.few_patterns, part_length n (n + 128) fs (omega arith) spot_fits);
+        room = omega (arith, S.olds.few_patterns, part_length n (n + 128) fs (omega arith) spot_fits);
         tells = λ k l.
-            rw (part_at n (n + 128) k fs (omega (arith, S.both.olds.proper.few_patterns)), n-is, S.olds (omega arith) k l, S.first)
+            rw (part_at n (n + 128) k fs (omega (arith, S.olds.few_patterns)), n-is, S.lines (omega arith) k l, S.first)
             (firsts_same (ns ++ os) (get_or os k []) text (old_among k l) S.among);
       }
         where
@@ -298,45 +293,43 @@ module _ (old new : Text) (wo wn : List ℕ) (pair : Pair) (fs : List ℕ) (text
           go (no l) = absurd (omega (arith, index_past text ns os (omega arith), S.first))
 
 -- ---- the stem of a fresh text
-module _ (old new : Text) (wo wn : List ℕ) (pair : Pair) (text : Text) (spot : Spot) (last : Stem) (F : Fresh old new wo wn pair text spot last) where
-  pub fresh_old : BestSought old pair.old wo text spot.in_old last.in_old
+module _ (old new : View) (text : Text) (spot : Spot) (last : Stem) (F : Fresh old new text spot last) where
+  pub fresh_old : BestSought old text spot.in_old last.in_old
   unfolding last_stem
-  fresh_old = record { holds = F.both.olds; permitted = F.permitted; line = F.spot_is.in_old_lem; root_is = ap (λ (x : Stem). x.in_old) F.last_is }
+  fresh_old = record { proper = F.olds; permitted = F.permitted; line = F.spot_is.in_old_lem; root_is = ap (λ (x : Stem). x.in_old) F.last_is }
 
-  pub fresh_new : BestSought new pair.new wn text spot.in_new last.in_new
+  pub fresh_new : BestSought new text spot.in_new last.in_new
   unfolding last_stem
-  fresh_new = record { holds = F.both.news; permitted = F.permitted; line = F.spot_is.in_new_lem; root_is = ap (λ (x : Stem). x.in_new) F.last_is }
+  fresh_new = record { proper = F.news; permitted = F.permitted; line = F.spot_is.in_new_lem; root_is = ap (λ (x : Stem). x.in_new) F.last_is }
 
 pub fresh_is : (os ns : List Text) (t : Text) (x y z : ℕ) → x ≡ sort_of (kind_of t) → y ≡ stem_best os (kind_of t) → z ≡ stem_best ns (kind_of t) → FreshIs os ns t (record { sort = x; in_old = y; in_new = z })
 fresh_is os ns t x y z p q r = record { sort = p; in_old_lem = q; in_new_lem = r }
 
 -- the texts of both are permitted
-permitted_in : (s : Text) (t : Tally) (w : List ℕ) → Holds s t w → (i : ℕ) → i < length (texts (view_at s t w)) → is_permitted (kind_of (get_or (texts (view_at s t w)) i [])) ≡ true
-permitted_in s t w H i h =
-    let ts : List Text = texts (view_at s t w) in
-    pattern_permitted (get_or ts i []) (H.proper.good_patterns (get_or ts i []) (at_listed ts i h))
+permitted_in : (v : View) → ProperView v → (i : ℕ) → i < length (texts v) → is_permitted (kind_of (get_or (texts v) i [])) ≡ true
+permitted_in v P i h = let ts : List Text = texts v in pattern_permitted (get_or ts i []) (P.good_patterns (get_or ts i []) (at_listed ts i h))
 
-pub permitted_at : (old new : Text) (wo wn : List ℕ) (pair : Pair) → Both old new wo wn pair → (t : Text) (j : ℕ) → j < length (new_texts new wn pair ++ old_texts old wo pair)
-    → t ≡ get_or (new_texts new wn pair ++ old_texts old wo pair) j [] → is_permitted (kind_of t) ≡ true
-permitted_at old new wo wn pair B t j h e = go (dec_lt j (length us))
+pub permitted_at : (old new : View) → ProperView old → ProperView new → (t : Text) (j : ℕ) → j < length (texts new ++ texts old) → t ≡ get_or (texts new ++ texts old) j []
+    → is_permitted (kind_of t) ≡ true
+permitted_at old new P Q t j h e = go (dec_lt j (length us))
   where
     us : List Text
-    us = new_texts new wn pair
+    us = texts new
 
     vs : List Text
-    vs = old_texts old wo pair
+    vs = texts old
 
     go : Dec (j < length us) → is_permitted (kind_of t) ≡ true
-    go (yes l) = ap (λ (u : Text). is_permitted (kind_of u)) (e ∙ get_or-append us vs [] j l) ∙ permitted_in new pair.new wn B.news j l
+    go (yes l) = ap (λ (u : Text). is_permitted (kind_of u)) (e ∙ get_or-append us vs [] j l) ∙ permitted_in new Q j l
     go (no l) =
         let q : length us + (j - length us) ≡ j = omega arith in
         let z : get_or (us ++ vs) j [] ≡ get_or vs (j - length us) [] = ap (λ (i : ℕ). get_or (us ++ vs) i []) (sym q) ∙ get_or-append-add us vs (j - length us) [] in
-        ap (λ (u : Text). is_permitted (kind_of u)) (e ∙ z) ∙ permitted_in old pair.old wo B.olds (j - length us) (omega (arith, length-append us vs))
+        ap (λ (u : Text). is_permitted (kind_of u)) (e ∙ z) ∙ permitted_in old P (j - length us) (omega (arith, length-append us vs))
 
 -- ---- the stem of line j
-module _ (old new : Text) (wo wn : List ℕ) (pair : Pair) (fs : List ℕ) (last : Stem) (j : ℕ) (S : Stemmable old new wo wn pair fs last j) where
+module _ (old new : View) (fs : List ℕ) (last : Stem) (j : ℕ) (S : Stemmable old new fs last j) where
   abbrev bs : List Text
-  bs = new_texts new wn pair ++ old_texts old wo pair
+  bs = texts new ++ texts old
 
   pub stem_there : j < length fs
   stem_there = omega (arith, S.few, S.size)
@@ -349,27 +342,28 @@ module _ (old new : Text) (wo wn : List ℕ) (pair : Pair) (fs : List ℕ) (last
     before_is = sym (index_take (get_or bs j []) bs j (omega (arith, S.inside))) ∙ ap (λ (i : ℕ). ltb i j) (sym first_is)
 
     -- the same text stands before
-    pub stem_again : f < j → StemOf (old_texts old wo pair) (new_texts new wn pair) j (record { sort = 0; in_old = 0; in_new = 0 })
+    pub stem_again : f < j → StemOf (texts old) (texts new) j (record { sort = 0; in_old = 0; in_new = 0 })
     stem_again h =
         let b : member (get_or bs j []) (take j bs) ≡ true = before_is ∙ lt-ltb f j (omega arith) in
         record { sort = rw b; in_old_lem = λ c. absurd (never (member (get_or bs j []) (take j bs)) b c); in_new_lem = λ c. absurd (never (member (get_or bs j []) (take j bs)) b c) }
 
     module _ (h : j ≤ f) (text : Text) (text_is : text ≡ get_or bs j []) where
-      pub stem_spot : Spottable old new wo wn pair fs text f
+      pub stem_spot : Spottable old new fs text f
       stem_spot = record {
-        both = S.both;
+        olds = S.olds;
+        news = S.news;
         size = S.size;
         first = first_is ∙ ap (λ (t : Text). index_of t bs) (sym text_is);
         among = rw text_is (among_lines bs j S.inside);
-        olds = λ l k m.
-            S.firsts (length (new_texts new wn pair) + k) (omega arith) (omega (arith, length-append (new_texts new wn pair) (old_texts old wo pair)))
-            ∙ ap (λ (t : Text). index_of t bs) (get_or-append-add (new_texts new wn pair) (old_texts old wo pair) k []);
+        lines = λ l k m.
+            S.firsts (length (texts new) + k) (omega arith) (omega (arith, length-append (texts new) (texts old)))
+            ∙ ap (λ (t : Text). index_of t bs) (get_or-append-add (texts new) (texts old) k []);
       }
 
-      pub stem_fresh : (spot : Spot) → SpotIs (old_texts old wo pair) (new_texts new wn pair) text spot → Fresh old new wo wn pair text spot last
-      stem_fresh spot P = record { both = S.both; permitted = permitted_at old new wo wn pair S.both text j S.inside text_is; spot_is = P; last_is = S.last_is }
+      pub stem_fresh : (spot : Spot) → SpotIs (texts old) (texts new) text spot → Fresh old new text spot last
+      stem_fresh spot P = record { olds = S.olds; news = S.news; permitted = permitted_at old new S.olds S.news text j S.inside text_is; spot_is = P; last_is = S.last_is }
 
-      pub stem_new : (y : Stem) → FreshIs (old_texts old wo pair) (new_texts new wn pair) text y → StemOf (old_texts old wo pair) (new_texts new wn pair) j y
+      pub stem_new : (y : Stem) → FreshIs (texts old) (texts new) text y → StemOf (texts old) (texts new) j y
       stem_new y F =
           let b : member (get_or bs j []) (take j bs) ≡ false = before_is ∙ le-ltb f j (omega arith) in
           record { sort = rw (b, ← text_is) F.sort; in_old_lem = λ c. rw (← text_is) F.in_old_lem; in_new_lem = λ c. rw (← text_is) F.in_new_lem }

@@ -1,5 +1,5 @@
 -- The scratch while it is filled: what each part of it leaves. For the proofs alone.
-use Rattle.std.specs.Prelude.{ℕ, ◌+◌, ◌≤◌, ◌≡◌, List, length}
+use Rattle.std.specs.Prelude.{ℕ, ◌≤◌, ◌≡◌, List, length}
 use Rattle.text.specs.Texts.{part}
 use Rattle.reading.specs.Views.{View, texts}
 use Rattle.grants.specs.Sides.{SideOf, PairsOf}

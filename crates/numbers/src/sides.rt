@@ -70,6 +70,7 @@ pub fn fill_map(new: &View, view: &View, map: &mut [u32]) -> usize
     requires { length map.old ≡ 32 }
     ensures indices { Mapped new.now.roles view.now.roles map.new }
     ensures count { result ≡ length new.now.roles }
+    ensures few { result ≤ 32 }
 {
     let n = new.role_count();
     for i in 0..n {

@@ -56,7 +56,7 @@ module _ (s : Text) (at : ℕ) (r : Option Headed) (h : r ≡ head_of (part at (
     cut_open y = sym (by_head ∙ ap (cut_with s at) k ∙ rw (← q, ← n, not-true w y))
 
     pub cut_is : (b : Bool) → b ≡ all is_text (part (at + d.size) e s) → not w ≡ false
-        → Some (record { kind = d.kind; from = at + d.size; end = e; clean = b }) ≡ cut_of s at
+        → Some (record { kind = d.kind; field = record { from = at + d.size; end = e; clean = b } }) ≡ cut_of s at
     cut_is b c y = sym (by_head ∙ ap (cut_with s at) k ∙ rw (← q, ← n, not-false w y, c))
 
 -- ---- what the line comes to
@@ -65,10 +65,10 @@ record Cutting (s : Text) (at : ℕ) (r : Cut) : Type 0 where
   head : Headed
   known : head_of (drop at s) ≡ Some head
   kind : r.kind ≡ head.kind
-  from : r.from ≡ at + head.size
-  end : r.end ≡ at + head.size + to_field_end (drop (at + head.size) s)
-  clean : r.clean ≡ all is_text (part r.from r.end s)
-  stop : eqb (get_or s r.end 0) newline ≡ true
+  from : r.field.from ≡ at + head.size
+  end : r.field.end ≡ at + head.size + to_field_end (drop (at + head.size) s)
+  clean : r.field.clean ≡ all is_text (part r.field.from r.field.end s)
+  stop : eqb (get_or s r.field.end 0) newline ≡ true
 
 cutting : (s : Text) (at : ℕ) (r : Cut) → Some r ≡ cut_of s at → Cutting s at r
 unfolding cut_of
@@ -79,7 +79,7 @@ cutting s at r is = go (head_of (drop at s)) refl is
     go (Some d) e q = how (eqb (get_or s (end_of s (at + d.size)) 0) newline) refl q
       where
         whole : Cut
-        whole = record { kind = d.kind; from = at + d.size; end = end_of s (at + d.size); clean = all is_text (part (at + d.size) (end_of s (at + d.size)) s) }
+        whole = record { kind = d.kind; field = record { from = at + d.size; end = end_of s (at + d.size); clean = all is_text (part (at + d.size) (end_of s (at + d.size)) s) } }
 
         how : (b : Bool) → eqb (get_or s (end_of s (at + d.size)) 0) newline ≡ b → Some r ≡ cond b (Some whole) None → Cutting s at r
         how false z i = absurd (unlike r i)
@@ -102,7 +102,7 @@ module _ (s : Text) (c : Cursor) (o : Option Cut) (is : o ≡ cut_of s c.at) (h 
           end = end_of s (c.at + d.size)
 
           whole : Cut
-          whole = record { kind = d.kind; from = c.at + d.size; end = end; clean = all is_text (part (c.at + d.size) end s) }
+          whole = record { kind = d.kind; field = record { from = c.at + d.size; end = end; clean = all is_text (part (c.at + d.size) end s) } }
 
           how : (b : Bool) → eqb (get_or s end 0) newline ≡ b → Dec (end < length s) → ◌≡◌ {A = Option Cut} None (cond b (Some whole) None)
               → LineOutcome s c (line_from T (lines_of (drop c.at s))) (Err BadForm) w
@@ -115,32 +115,32 @@ module _ (s : Text) (c : Cursor) (o : Option Cut) (is : o ≡ cut_of s c.at) (h 
     says = cutting s c.at r (sym k ∙ is)
 
     -- the field's end lies behind its begin, and behind the line's
-    pub cut_field : r.from ≤ r.end
+    pub cut_field : r.field.from ≤ r.field.end
     cut_field = omega (arith, says.end, says.from)
 
-    pub cut_behind : c.at ≤ r.end
+    pub cut_behind : c.at ≤ r.field.end
     cut_behind = omega (arith, says.end)
 
-    pub cut_clean : r.clean ≡ all is_text (part r.from r.end s)
+    pub cut_clean : r.field.clean ≡ all is_text (part r.field.from r.field.end s)
     cut_clean = says.clean
 
     -- a whole line's end is a byte of the text
-    pub cut_here : r.end < length s
-    cut_here = how (dec_lt r.end (length s))
+    pub cut_here : r.field.end < length s
+    cut_here = how (dec_lt r.field.end (length s))
       where
-        how : Dec (r.end < length s) → r.end < length s
+        how : Dec (r.field.end < length s) → r.field.end < length s
         how (yes i) = i
-        how (no i) = absurd (never true refl (sym says.stop ∙ sym (none_behind s r.end (omega arith))))
+        how (no i) = absurd (never true refl (sym says.stop ∙ sym (none_behind s r.field.end (omega arith))))
 
-    pub cut_within : r.end ≤ length s
+    pub cut_within : r.field.end ≤ length s
     cut_within = omega (arith, cut_here)
 
     pub cut_whole : (l : Result Lined Fault)
-        → LineOutcome s c (line_with T (some (record_with r.kind (part r.from r.end s))) (lines_of (drop (r.end + 1) s))) l w
+        → LineOutcome s c (line_with T (some (record_with r.kind (part r.field.from r.field.end s))) (lines_of (drop (r.field.end + 1) s))) l w
         → LineOutcome s c (line_from T (lines_of (drop c.at s))) l w
-    cut_whole l g = head_whole s c T h w says.head r.end says.known says.end l cut_here (eqb-true (get_or s r.end 0) newline says.stop) (headed r.kind r.from says.kind says.from g)
+    cut_whole l g = head_whole s c T h w says.head r.field.end says.known says.end l cut_here (eqb-true (get_or s r.field.end 0) newline says.stop) (headed r.kind r.field.from says.kind says.from g)
       where
         headed : (k' : Kind) (a : ℕ) → k' ≡ says.head.kind → a ≡ c.at + says.head.size
-            → LineOutcome s c (line_with T (some (record_with k' (part a r.end s))) (lines_of (drop (r.end + 1) s))) l w
-            → LineOutcome s c (line_with T (some (record_with says.head.kind (part (c.at + says.head.size) r.end s))) (lines_of (drop (r.end + 1) s))) l w
+            → LineOutcome s c (line_with T (some (record_with k' (part a r.field.end s))) (lines_of (drop (r.field.end + 1) s))) l w
+            → LineOutcome s c (line_with T (some (record_with says.head.kind (part (c.at + says.head.size) r.field.end s))) (lines_of (drop (r.field.end + 1) s))) l w
         headed k' a p q g = rw (p, q) at g

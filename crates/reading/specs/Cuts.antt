@@ -16,9 +16,7 @@ end_of s a = a + to_field_end (drop a s)
 abbrev pub cut_by : Text → Headed → ℕ → Option Cut
 cut_by s h a = cond (eqb (get_or s (end_of s a) 0) newline) (Some (record {
   kind = h.kind;
-  from = a;
-  end = end_of s a;
-  clean = all is_text (part a (end_of s a) s);
+  field = record { from = a; end = end_of s a; clean = all is_text (part a (end_of s a) s) };
 })) None
 
 -- the line at an offset of s whose head is that; none also where it names no record

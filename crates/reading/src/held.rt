@@ -105,7 +105,9 @@ impl<'a> View<'a> {
         ensures index { result ≡ index_of name.now self.now.roles }
         ensures proper { ProperView self.now }
     {
-        tables::index(self.text, self.table, tables::ROLES, self.tally.roles, name)
+        tables::index(self.text, self.table, tables::ROLES, self.tally.roles, name).unwrap_or(
+            self.tally.roles,
+        )
     }
 
     // How many methods there are.
@@ -136,5 +138,6 @@ impl<'a> View<'a> {
             self.tally.methods,
             name,
         )
+        .unwrap_or(self.tally.methods)
     }
 }

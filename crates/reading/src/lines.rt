@@ -3,17 +3,16 @@ ghost use Rattle.std.specs.Prelude.{◌≡◌, ◌<◌, length, get_or, eqb};
 ghost use Rattle.text.specs.Texts.{newline};
 ghost use Rattle.reading.specs.Cuts.{cut_of};
 
+use entries::steps::Span;
 use listings::records;
 use listings::records::Kind;
 use text::texts;
 
-// A whole line, cut: the record that it names, where its field begins and ends, and whether that is all text.
+// A whole line, cut: the record that it names, and its field.
 #[derive(Clone, Copy)]
 pub struct Cut {
     pub kind: Kind,
-    pub from: usize,
-    pub end: usize,
-    pub clean: bool,
+    pub field: Span,
 }
 
 // Whether a byte 10 stands at e.
@@ -36,8 +35,10 @@ pub fn cut_at(text: &[u8], at: usize) -> Option<Cut>
     }
     Some(Cut {
         kind: head.kind,
-        from,
-        end: field.end,
-        clean: field.clean,
+        field: Span {
+            from,
+            end: field.end,
+            clean: field.clean,
+        },
     })
 }

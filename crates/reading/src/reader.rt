@@ -70,11 +70,11 @@ impl Cursor {
 
 // A whole line, cut.
 pub fn line_named(s: &[u8], w: &mut [u32], t: Tally, c: Cursor, cut: Cut) -> Result<Lined, Fault>
-    requires { Field s.now t w.old cut.from cut.end × ((cut.clean ≡ all is_text (part cut.from cut.end s.now)) × LineEnd s.now c cut.end) }
-    ensures { LineOutcome s.now c (line_with (tables_at s.now t w.old) (some (record_with cut.kind (part cut.from cut.end s.now))) (lines_of (drop (cut.end + 1) s.now))) result w.new }
+    requires { Field s.now t w.old cut.field.from cut.field.end × ((cut.field.clean ≡ all is_text (part cut.field.from cut.field.end s.now)) × LineEnd s.now c cut.field.end) }
+    ensures { LineOutcome s.now c (line_with (tables_at s.now t w.old) (some (record_with cut.kind (part cut.field.from cut.field.end s.now))) (lines_of (drop (cut.field.end + 1) s.now))) result w.new }
 {
-    let u = steps::step(s, w, t, cut.kind, cut.from, cut.end, cut.clean)?;
-    let d = c.past(cut.end);
+    let u = steps::step(s, w, t, cut.kind, cut.field)?;
+    let d = c.past(cut.field.end);
     if cut.kind == Kind::End {
         return Ok(Lined::Ended(u, d));
     }
@@ -99,6 +99,7 @@ pub fn fill_lines(s: &[u8], w: &mut [u32], at: usize) -> Result<Tally, Refusal>
 {
     let mut t = Tally::start();
     let mut c = Cursor { at, line: 2 };
+    // Kept: (d) a line's length is known only when it is read, so a `for` would need an iterator type that holds this very loop.
     while c.at < s.len() {
         match line(s, w, t, c) {
             Err(fault) => return Err(c.refusal(fault)),

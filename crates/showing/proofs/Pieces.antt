@@ -18,9 +18,7 @@ use Rattle.text.proofs.Indices.{member_at}
 use Rattle.names.specs.Names.{is_pattern, is_method_name}
 use Rattle.names.specs.Patterns.{PatternKind, exact, prefix, extension, default, unpermitted, kind_of, Shape}
 use Rattle.names.proofs.Plainly.{shape}
-use Rattle.reading.specs.Holds.{Holds}
-use Rattle.reading.specs.Views.{View, ProperView, texts, view_at}
-use Rattle.entries.specs.declared.tables.Tally.{Tally}
+use Rattle.reading.specs.Views.{View, ProperView, texts}
 use Rattle.matching.proofs.Strengths.{at_listed}
 use Rattle.writing.proofs.Decimals.{digits_most}
 use Rattle.writing.proofs.Puts.{sets_then}
@@ -28,32 +26,30 @@ use Rattle.trials.specs.Trials.{below}
 use Rattle.trials.specs.Answers.{line_of, caller_fields, answer_of}
 use Rattle.trials.proofs.Bounds.{made_short, role_made, tried_good}
 use Rattle.grants.specs.Sides.{caller_at, Showable}
-use Rattle.grants.specs.Scratch.{stem_path}
+use Rattle.grants.specs.Scratch.{stem_path, texts_of}
 use Rattle.walks.specs.Walks.{kind_at, ending, hit_path}
 use Rattle.walks.proofs.Hits.{kind_line, kind_behind, ending_some}
-use Rattle.showing.specs.Shown.{lines_of_both, methods_of_both, filler_at, Telling, EndingIn, FoundIn, found_request, found_head, found_tail}
+use Rattle.showing.specs.Shown.{tried_of, filler_at, Telling, EndingIn, FoundIn, found_request, found_head, found_tail}
 use Rattle.walks.specs.declared.walking.Hit.{Hit}
 use Rattle.showing.proofs.StemPaths.{tail_short}
-use Rattle.firsts.specs.declared.pairs.Pair.{Pair}
-use Rattle.numbers.specs.Writes.{Both, old_view, new_view, old_texts, new_texts}
 
 -- ---- the lines of both views
 pub line_total : (us vs : List Text) (a b : ℕ) → a ≡ length us → b ≡ length vs → a + b ≡ length (us ++ vs)
 line_total us vs a b p q = omega (arith, length-append us vs)
 
 -- there are 256 at most
-pub lines_fit : (old new : Text) (wo wn : List ℕ) (pair : Pair) → Both old new wo wn pair → (a b : ℕ) → a ≡ length (new_texts new wn pair) → b ≡ length (old_texts old wo pair) → a + b < 18446744073709551616
-lines_fit old new wo wn pair B a b p q = omega (arith, B.news.proper.few_patterns, B.olds.proper.few_patterns)
+pub lines_fit : (old new : View) → ProperView old → ProperView new → (a b : ℕ) → a ≡ length (texts new) → b ≡ length (texts old) → a + b < 18446744073709551616
+lines_fit old new O N a b p q = omega (arith, N.few_patterns, O.few_patterns)
 
 pub line_there : (n j : ℕ) (ts : List Text) → n ≡ length ts → j < n → j < length ts
 line_there n j ts e h = omega arith
 
 -- each is a pattern
-pub line_pattern : (old new : Text) (w : List ℕ) (pair : Pair) → Telling old new w pair → (j : ℕ) (t : Text) → j < length (lines_of_both old new w pair) → t ≡ get_or (lines_of_both old new w pair) j []
+pub line_pattern : (old new : View) → ProperView old → ProperView new → (j : ℕ) (t : Text) → j < length (texts_of old new) → t ≡ get_or (texts_of old new) j []
     → is_pattern t ≡ true
-line_pattern old new w pair T j t h e =
-    let u : Text = get_or (lines_of_both old new w pair) j [] in
-    rw e (⊎_elim (T.both.news.proper.good_patterns u) (T.both.olds.proper.good_patterns u) (Memᴰ.append_cases (texts (new_view new w pair)) (at_listed (lines_of_both old new w pair) j h)))
+line_pattern old new O N j t h e =
+    let u : Text = get_or (texts_of old new) j [] in
+    rw e (⊎_elim (N.good_patterns u) (O.good_patterns u) (Memᴰ.append_cases (texts new) (at_listed (texts_of old new) j h)))
 
 -- ---- the stem
 module _ (ts : List Text) (n j k : ℕ) (total : k ≡ length ts) where
@@ -141,12 +137,12 @@ ending_most ts (Some i) short E =
     let v = ap length (ending_some ts i E.1 E.0 E.2) in
     omega arith
 
-module _ (old new : Text) (w : List ℕ) (pair : Pair) (T : Telling old new w pair) (f : Hit) (F : FoundIn (old_view old w pair) (new_view new w pair) f) (n : ℕ) where
+module _ (old new : View) (w : List ℕ) (T : Telling old new w) (f : Hit) (F : FoundIn old new f) (n : ℕ) where
   abbrev lines : List Text
-  lines = lines_of_both old new w pair
+  lines = texts_of old new
 
   texts_short : (t : Text) → Memᴰ t lines → length t ≤ 255
-  texts_short t m = ⊎_elim (T.both.news.proper.short_patterns t) (T.both.olds.proper.short_patterns t) (Memᴰ.append_cases (texts (new_view new w pair)) m)
+  texts_short t m = ⊎_elim (T.news.short_patterns t) (T.olds.short_patterns t) (Memᴰ.append_cases (texts new) m)
 
   abbrev path : Text
   path = hit_path (filler_at n) lines f.stem f.ending
@@ -176,29 +172,29 @@ module _ (old new : Text) (w : List ℕ) (pair : Pair) (T : Telling old new w pa
       pub head_near : r ≤ 1000
       head_near = omega (arith, path_short)
 
-      pub head_offset : r ≡ 0 + length (found_head (old_view old w pair) (new_view new w pair) n f)
+      pub head_offset : r ≡ 0 + length (found_head old new n f)
       head_offset = omega (arith, length-append (bytes "verdict\twider\npath\t") path, length-append (bytes "verdict\twider\npath\t" ++ path) (bytes "\nmethod\t"))
 
       pub head_bytes : (out o₁ o₂ o₃ : Text) → o₁ ≡ sets out 0 (bytes "verdict\twider\npath\t") → o₂ ≡ sets o₁ a path → o₃ ≡ sets o₂ b (bytes "\nmethod\t")
-          → o₃ ≡ sets out 0 (found_head (old_view old w pair) (new_view new w pair) n f)
+          → o₃ ≡ sets out 0 (found_head old new n f)
       head_bytes out o₁ o₂ o₃ p q s =
           let e : b ≡ 0 + length (bytes "verdict\twider\npath\t" ++ path) = omega (arith, length-append (bytes "verdict\twider\npath\t") path) in
           sets_then out o₂ o₃ (bytes "verdict\twider\npath\t" ++ path) (bytes "\nmethod\t") 0 b e (sets_then out o₁ o₂ (bytes "verdict\twider\npath\t") path 0 a at₁ p q) s
 
 -- from the method on
-module _ (old new : Text) (w : List ℕ) (pair : Pair) (T : Telling old new w pair) (f : Hit) (F : FoundIn (old_view old w pair) (new_view new w pair) f) where
+module _ (old new : View) (w : List ℕ) (T : Telling old new w) (f : Hit) (F : FoundIn old new f) where
   abbrev method : Text
-  method = get_or (methods_of_both old new w pair) f.caught.method []
+  method = get_or (tried_of old new) f.caught.method []
 
   abbrev line : Text
-  line = line_of (caller_fields (caller_at (new_view new w pair).roles f.caught.caller))
+  line = line_of (caller_fields (caller_at new.roles f.caught.caller))
 
   tried_short : length method ≤ 24
   unfolding is_method_name
   tried_short =
       made_short is_token 1 24 method
-      (tried_good (old_view old w pair).methods (new_view new w pair).methods T.both.olds.proper.good_methods T.both.news.proper.good_methods method
-      (at_listed (methods_of_both old new w pair) f.caught.method F.method))
+      (tried_good old.methods new.methods T.olds.good_methods T.news.good_methods method
+      (at_listed (tried_of old new) f.caught.method F.method))
 
   module _ (at a b : ℕ) (in_reach : at ≤ 1000) (at₁ : a ≡ at + length method) where
     pub method_near : a ≤ 1000000
@@ -208,10 +204,10 @@ module _ (old new : Text) (w : List ℕ) (pair : Pair) (T : Telling old new w pa
       pub caller_near : b ≤ 10000
       caller_near = omega (arith, tried_short)
 
-      pub tail_offset : (r : ℕ) → r ≡ b + length line → r ≡ at + length (found_tail (old_view old w pair) (new_view new w pair) f)
+      pub tail_offset : (r : ℕ) → r ≡ b + length line → r ≡ at + length (found_tail old new f)
       tail_offset r p = omega (arith, length-append method (bytes "\n"), length-append (method ++ bytes "\n") line)
 
-      pub tail_bytes : (out o₁ o₂ o₃ : Text) → o₁ ≡ sets out at method → o₂ ≡ sets o₁ a (bytes "\n") → o₃ ≡ sets o₂ b line → o₃ ≡ sets out at (found_tail (old_view old w pair) (new_view new w pair) f)
+      pub tail_bytes : (out o₁ o₂ o₃ : Text) → o₁ ≡ sets out at method → o₂ ≡ sets o₁ a (bytes "\n") → o₃ ≡ sets o₂ b line → o₃ ≡ sets out at (found_tail old new f)
       tail_bytes out o₁ o₂ o₃ p q s =
           let e : b ≡ at + length (method ++ bytes "\n") = omega (arith, length-append method (bytes "\n")) in
           sets_then out o₂ o₃ (method ++ bytes "\n") line at b e (sets_then out o₁ o₂ method (bytes "\n") at a at₁ p q) s
@@ -242,13 +238,13 @@ role_most v c P S h =
     let n : Text = get_or v.roles (c - 2) [] in
     made_short is_text 1 64 n (role_made n (P.good_roles n (member_at v.roles (c - 2) (role_there v.roles c S h))))
 
-module _ (s : Text) (t : Tally) (w : List ℕ) (c : ℕ) (name : Text) (H : Holds s t w) (S : Showable (view_at s t w).roles c) (some : c ≡ 0 → ⊥) (e : name ≡ get_or (view_at s t w).roles (c - 2) []) where
+module _ (v : View) (c : ℕ) (name : Text) (P : ProperView v) (S : Showable v.roles c) (some : c ≡ 0 → ⊥) (e : name ≡ get_or v.roles (c - 2) []) where
   pub role_short : length name ≤ 1000000
-  role_short = rw e (omega (arith, role_most (view_at s t w) c H.proper S some))
+  role_short = rw e (omega (arith, role_most v c P S some))
 
   -- so is what stands before its line's end
   pub role_near : (at a b : ℕ) → at ≤ 10000 → a ≡ at + 12 → b ≡ a + length name → b ≤ 1000000
-  role_near at a b l p q = omega (arith, ap length e, role_most (view_at s t w) c H.proper S some)
+  role_near at a b l p q = omega (arith, ap length e, role_most v c P S some)
 
 -- the line with the role of caller c
 role_line : (ns : List Text) (c : ℕ) (name : Text) → (c ≡ 0 → ⊥) → (c ≡ 1 → ⊥) → name ≡ get_or ns (c - 2) [] → (bytes "caller\trole\t" ++ name) ++ bytes "\n" ≡ line_of (caller_fields (caller_at ns c))
@@ -293,15 +289,13 @@ line_short v c P S = go (dec_lt 0 c)
         omega (arith, length-append (bytes "caller\trole\t" ++ name) (bytes "\n"), length-append (bytes "caller\trole\t") name, role_most v c P S some)
     go (no h) = let z = none_offset v.roles c [] 0 12 (omega arith) refl in omega arith
 
-pub wider_short : (old new : Text) (w : List ℕ) (pair : Pair) → Telling old new w pair → (f : Hit) → FoundIn (old_view old w pair) (new_view new w pair) f → (n : ℕ)
-    → length (answer_of (Opt.some (found_request (old_view old w pair) (new_view new w pair) n f))) ≤ 1024
-wider_short old new w pair T f F n =
-    let ov : View = old_view old w pair in
-    let nv : View = new_view new w pair in
-    let line : Text = line_of (caller_fields (caller_at nv.roles f.caught.caller)) in
-    let tried : Text = get_or (methods_of_both old new w pair) f.caught.method [] in
-    let h : 27 + length (found_request ov nv n f).path ≡ 0 + length (found_head ov nv n f) = head_offset old new w pair T f F n 19 (19 + length (found_request ov nv n f).path) _ refl refl (omega arith) in
+pub wider_short : (old new : View) (w : List ℕ) → Telling old new w → (f : Hit) → FoundIn old new f → (n : ℕ)
+    → length (answer_of (Opt.some (found_request old new n f))) ≤ 1024
+wider_short old new w T f F n =
+    let line : Text = line_of (caller_fields (caller_at new.roles f.caught.caller)) in
+    let tried : Text = get_or (tried_of old new) f.caught.method [] in
+    let h : 27 + length (found_request old new n f).path ≡ 0 + length (found_head old new n f) = head_offset old new w T f F n 19 (19 + length (found_request old new n f).path) _ refl refl (omega arith) in
     let t = length-append (tried ++ bytes "\n") line in
     let u = length-append tried (bytes "\n") in
-    let z = ap length (both_parts ov nv n f) in
-    omega (arith, path_short old new w pair T f F n, tried_short old new w pair T f F, line_short nv f.caught.caller T.both.news.proper F.caller, length-append (found_head ov nv n f) (found_tail ov nv f))
+    let z = ap length (both_parts old new n f) in
+    omega (arith, path_short old new w T f F n, tried_short old new w T f F, line_short new f.caught.caller T.news F.caller, length-append (found_head old new n f) (found_tail old new f))

@@ -6,11 +6,13 @@ use Prim.Native.Nat.{ℕ, zero, suc, ◌+◌, ◌-◌, ◌≤◌}
 use native.Mathlib.Omega.{arith}
 use lib.ListN.{length, take, drop, length-append, length-drop}
 use lib.Seq.{sets}
+use lib.Dec.{eqb}
+use Rattle.std.specs.Cmp.Lexicographic.{pointwise}
 use Rattle.text.specs.Texts.{Text, bytes, slash, dot, same, starts_with, ends_with, part}
 use Rattle.names.specs.Names.{is_pattern}
 use Rattle.names.specs.Patterns.{exact, prefix, extension, unpermitted, is_extension, kind_of, is_permitted}
 use Rattle.text.proofs.Truths.{never}
-use Rattle.text.proofs.Spans.{same_equal, from_on}
+use Rattle.text.proofs.Spans.{same_equal, from_on, stripped_end}
 use Rattle.names.proofs.Namings.{filled_differs}
 use Rattle.names.proofs.Plainly.{starts_plain}
 use Rattle.writing.specs.Decimals.{digits}
@@ -42,8 +44,8 @@ root_short at r n h e = omega (arith, digits_most 5 n)
 pub tail_short : (t : Text) → is_pattern t ≡ true → length (part 1 (length t) t) ≤ 1000000
 tail_short t h = let l = ap length (from_on 1 t) ∙ length-drop 1 t in omega (arith, pattern_short t h)
 
-pub head_short : (t : Text) (e : ℕ) → is_pattern t ≡ true → length (take e t) ≤ 255
-head_short t e h = let l = length_take_most e t in omega (arith, pattern_short t h)
+pub head_short : (t p : Text) (e : ℕ) → is_pattern t ≡ true → p ≡ take e t → length p ≤ 255
+head_short t p e h q = let l = length_take_most e t in omega (arith, pattern_short t h, ap length q)
   where
     length_take_most : (e : ℕ) (t : Text) → length (take e t) ≤ length t
     length_take_most zero t = omega arith
@@ -130,22 +132,22 @@ module _ (t out d : Text) (at n r : ℕ) where
         pub starred_bytes : d₁ ≡ sets out at (below [] (filler n)) → d ≡ sets d₁ a (part 1 (length t) t) → d ≡ sets out at (stem_path (filler n) (kind_of t))
         starred_bytes put₁ put₂ = rw (← whole) (sets_then out d₁ d (below [] (filler n)) (dot ∷ split.0) at a at₁ put₁ (rw behind at put₂))
 
-      module _ (no : y ≡ false) (unstarred : z ≡ false) (some : length t ≡ 0 → ⊥) (x : Bool) (ended : x ≡ ends_with (bytes "/*") t) where
+      module _ (no : y ≡ false) (unstarred : z ≡ false) (some : length t ≡ 0 → ⊥) (x : Bool) (ended : pointwise eqb (drop (length t - 2) t) (bytes "/*") ≡ x) where
         -- a prefix
-        module _ (yes : x ≡ true) where
-          pre : stem_path (filler n) (kind_of t) ≡ below (take (length t - 2) t) (filler n)
-          pre = path_below (filler n) t (sym (filled_differs t some)) (sym is ∙ no) (sym starred ∙ unstarred) (pattern_permitted t good) (sym ended ∙ yes)
+        module _ (yes : x ≡ true) (p : Text) (p-is : p ≡ take (length t - 2) t) where
+          pre : stem_path (filler n) (kind_of t) ≡ below p (filler n)
+          pre = path_below (filler n) t (sym (filled_differs t some)) (sym is ∙ no) (sym starred ∙ unstarred) (pattern_permitted t good) (sym (stripped_end (bytes "/*") t) ∙ ended ∙ yes) ∙ ap (λ (u : Text). below u (filler n)) (sym p-is)
 
-          pub prefix_offset : r ≡ at + length (below (take (length t - 2) t) (filler n)) → r ≡ at + length (stem_path (filler n) (kind_of t))
+          pub prefix_offset : r ≡ at + length (below p (filler n)) → r ≡ at + length (stem_path (filler n) (kind_of t))
           prefix_offset e = rw pre e
 
-          pub prefix_bytes : d ≡ sets out at (below (take (length t - 2) t) (filler n)) → d ≡ sets out at (stem_path (filler n) (kind_of t))
+          pub prefix_bytes : d ≡ sets out at (below p (filler n)) → d ≡ sets out at (stem_path (filler n) (kind_of t))
           prefix_bytes e = rw pre e
 
         -- the text itself
         module _ (unended : x ≡ false) where
           itself : stem_path (filler n) (kind_of t) ≡ t
-          itself = path_exact (filler n) t (sym (filled_differs t some)) (sym is ∙ no) (sym starred ∙ unstarred) (pattern_permitted t good) (sym ended ∙ unended)
+          itself = path_exact (filler n) t (sym (filled_differs t some)) (sym is ∙ no) (sym starred ∙ unstarred) (pattern_permitted t good) (sym (stripped_end (bytes "/*") t) ∙ ended ∙ unended)
 
           pub exact_offset : r ≡ at + length t → r ≡ at + length (stem_path (filler n) (kind_of t))
           exact_offset e = rw itself e

@@ -1,8 +1,8 @@
 -- What is known where a hit is shown, and the request that it stands for. For the proofs alone.
 use Rattle.std.specs.Prelude.{ℕ, ◌≤◌, ◌<◌, ◌≡◌, List, [], ◌++◌, length, get_or, Option, Some, None}
-use Rattle.text.specs.Texts.{Text, bytes, part}
+use Rattle.text.specs.Texts.{Text, bytes}
 use Rattle.names.specs.Patterns.{extension, kind_of}
-use Rattle.reading.specs.Views.{View}
+use Rattle.reading.specs.Views.{View, ProperView}
 use Rattle.decisions.specs.Requests.{Request, request}
 use Rattle.trials.specs.Fillers.{numbered}
 use Rattle.trials.specs.Trials.{methods_tried}
@@ -10,31 +10,22 @@ use Rattle.trials.specs.Answers.{line_of, caller_fields}
 use Rattle.grants.specs.Sides.{caller_at, Showable, PairsOf}
 use Rattle.grants.specs.Scratch.{pairs_in, texts_of}
 use Rattle.walks.specs.Walks.{hit_path}
-use Rattle.numbers.specs.Writes.{BothHeld, old_view, new_view}
-use Rattle.firsts.specs.declared.pairs.Pair.{Pair}
 use Rattle.walks.specs.declared.walking.Hit.{Hit}
 
 -- the trial methods of two views
 abbrev pub tried_of : View → View → List Text
 tried_of old new = methods_tried old.methods new.methods
 
--- of the views that the table holds: the pattern texts, in the order of the trials
-abbrev pub lines_of_both : Text → Text → List ℕ → Pair → List Text
-lines_of_both old new w pair = texts_of (old_view old w pair) (new_view new w pair)
-
--- and the trial methods
-abbrev pub methods_of_both : Text → Text → List ℕ → Pair → List Text
-methods_of_both old new w pair = tried_of (old_view old w pair) (new_view new w pair)
-
 -- the filler by its number
 abbrev pub filler_at : ℕ → Text
 filler_at n = numbered (bytes "q") n
 
--- the table holds both views, and behind them the trial methods by their numbers
-pub record Telling (old new : Text) (w : List ℕ) (pair : Pair) : Type 0 where
-  pub both : BothHeld old new w pair
-  pub long : 4096 ≤ length w
-  pub methods : PairsOf (old_view old w pair).methods (new_view new w pair).methods (pairs_in (part 2048 4096 w)) (length (methods_of_both old new w pair))
+-- two views as they should be, and in the scratch w the trial methods by their numbers
+pub record Telling (old new : View) (w : List ℕ) : Type 0 where
+  pub olds : ProperView old
+  pub news : ProperView new
+  pub long : 2048 ≤ length w
+  pub methods : PairsOf old.methods new.methods (pairs_in w) (length (tried_of old new))
 
 -- no extension, or that of a line
 abbrev pub EndingIn : List Text → Option ℕ → Type 0

@@ -27,7 +27,7 @@ pub fn put_stem(out: &mut [u8], at: usize, text: &[u8], n: usize) -> usize
     ensures offset { result ≡ at + length (stem_path (numbered (bytes "q") n) (kind_of text.now)) }
     ensures bytes { out.new ≡ sets out.old at (stem_path (numbered (bytes "q") n) (kind_of text.now)) }
 {
-    if text.len() == 0 {
+    if text.is_empty() {
         return writing::put(out, at, b"/");
     }
     if texts::are_same(text, b"/") {
@@ -37,9 +37,8 @@ pub fn put_stem(out: &mut [u8], at: usize, text: &[u8], n: usize) -> usize
         let a = put_below(out, at, b"", n);
         return writing::put(out, a, &text[1..]);
     }
-    if texts::ends_with(b"/*", text) {
-        let e = text.len() - 2;
-        return put_below(out, at, &text[..e], n);
+    if let Some(p) = text.strip_suffix(b"/*") {
+        return put_below(out, at, p, n);
     }
     writing::put(out, at, text)
 }

@@ -9,23 +9,6 @@ pub returns-then-not-has_byte-2 : goal.returns-then-not-has_byte-2
 unfolding is_extension
 returns-then-not-has_byte-2 c =
     elim c.if-not-has_byte.branch [
-      then-not-has_byte u ↦ elim c.if-not-is_empty.branch [
-        then-not-is_empty v ↦ search (rules, tests)
-        | else-not-is_empty v ↦ search rules
-      ]
+      | then-not-has_byte u ↦ elim c.if-not-is_empty.branch [ then-not-is_empty v ↦ search (rules, tests) | else-not-is_empty v ↦ search rules ]
       | else-not-has_byte u ↦ search rules
-    ]
-
-pub returns-else-not-has_byte-2 : goal.returns-else-not-has_byte-2
-unfolding is_extension
-returns-else-not-has_byte-2 c =
-    elim c.if-not-has_byte.branch [
-      then-not-has_byte u ↦ elim c.if-not-is_empty.branch [
-        then-not-is_empty v ↦ search (rules, tests)
-        | else-not-is_empty v ↦ search (rules, tests)
-      ]
-      | else-not-has_byte u ↦ elim c.if-not-is_empty.branch [
-        then-not-is_empty v ↦ search (rules, tests)
-        | else-not-is_empty v ↦ search (rules, tests)
-      ]
     ]

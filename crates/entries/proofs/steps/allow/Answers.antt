@@ -9,8 +9,8 @@ returns-then-not-is_name c = search (rules, allow_bad)
 pub returns-then-is_star : goal.returns-then-is_star
 returns-then-is_star c = search (rules, allow_star)
 
-pub returns-then-i-n : goal.returns-then-i-n
-returns-then-i-n c = search (rules, allow_known)
+pub returns-in-Some : goal.returns-in-Some
+returns-in-Some c = search (rules, allow_known)
 
 pub returns-then-most-n : goal.returns-then-most-n
 returns-then-most-n c = search (rules, allow_past)

@@ -9,8 +9,8 @@ returns-then-not-is_method_name c = search (rules, line_bad)
 pub returns-then-most-t : goal.returns-then-most-t
 returns-then-most-t c = search (rules, lines_past)
 
-pub returns-then-i-n : goal.returns-then-i-n
-returns-then-i-n c = search (rules, line_known)
+pub returns-in-Some : goal.returns-in-Some
+returns-in-Some c = search (rules, line_known)
 
 pub returns-then-most-n : goal.returns-then-most-n
 returns-then-most-n c = search (rules, methods_past)

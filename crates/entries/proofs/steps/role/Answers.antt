@@ -6,8 +6,8 @@ use Rattle.entries.proofs.steps.role.Goals as goal
 pub returns-then-not-is_role_name : goal.returns-then-not-is_role_name
 returns-then-not-is_role_name c = search (rules, role_bad)
 
-pub returns-then-index-n : goal.returns-then-index-n
-returns-then-index-n c = search (rules, role_twice_lem)
+pub returns-then-is_some : goal.returns-then-is_some
+returns-then-is_some c = search (rules, role_twice_lem)
 
 pub returns-then-most-n : goal.returns-then-most-n
 returns-then-most-n c = search (rules, role_past)

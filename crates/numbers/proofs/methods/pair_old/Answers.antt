@@ -9,7 +9,7 @@ loop-j-init c = search (rules, further_start)
 pub loop-j-preserved : goal.loop-j-preserved
 loop-j-preserved c = elim c.if-own-method_index.branch [
   | then-own-method_index w ↦ rw (w.w-is, w.count-is)
-      (further_more _ _ _ _ _ _ _ _ _ _ c.loop-j.invariant c.loop-j-test.true _ c.method-name.ensures _ c.method_index.ensures _ w.if-own-method_index.true w.put_pair.ensures)
+      (further_more _ _ _ _ _ _ _ _ _ c.loop-j.invariant c.loop-j-test.true _ c.method.ensures _ c.method_index.ensures.index _ w.if-own-method_index.true w.put_pair.ensures)
   | else-own-method_index w ↦ rw (w.w-is, w.count-is)
-      (further_known _ _ _ _ _ _ _ _ _ _ c.loop-j.invariant c.loop-j-test.true _ c.method-name.ensures _ c.method_index.ensures w.if-own-method_index.false)
+      (further_known _ _ _ _ _ _ _ _ _ c.loop-j.invariant c.loop-j-test.true _ c.method.ensures _ c.method_index.ensures.index w.if-own-method_index.false)
 ]

@@ -3,4 +3,4 @@ use Rattle.numbers.proofs.PairsPut.{PairingOld}
 use Rattle.numbers.proofs.methods.pair_old.Given as goal
 
 abbrev pub invariant-loop-j : goal.invariant-loop-j
-invariant-loop-j l = PairingOld l.old l.new l.pair l.at l.own l.n l.count l.j l.initial.w l.w
+invariant-loop-j l = PairingOld l.old l.new l.at l.own l.j-end l.count l.j l.initial.w l.w

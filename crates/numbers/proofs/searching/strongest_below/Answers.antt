@@ -3,5 +3,5 @@ use borrow.Author.Rules.{rules}
 use Rattle.deciding.proofs.Shorts.{lead_short}
 use Rattle.numbers.proofs.searching.strongest_below.Goals as goal
 
-pub strongest_by-requires-clause-calls : goal.strongest_by-requires-clause-calls
-strongest_by-requires-clause-calls c = λ u k h e. search (rules, lead_short)
+pub strongest_by-requires : goal.strongest_by-requires
+strongest_by-requires c = λ u k h e. search (rules, lead_short)

@@ -1,17 +1,12 @@
 -- `sides::fill_plain` meets its contract: three parts are filled one after the other.
-use borrow.Author.Rules.{rules}
-use Rattle.numbers.proofs.SideLines.{side_first, side_second, side_gaps, side_plain}
+use Rattle.numbers.proofs.SideLines.{side_second, side_gaps, side_plain}
 use Rattle.numbers.proofs.sides.fill_plain.Goals as goal
 
-pub fill_covers-requires : goal.fill_covers-requires
-fill_covers-requires c = search (rules, side_first)
-
 pub fill_accesses-requires : goal.fill_accesses-requires
-fill_accesses-requires c = search (rules, side_second)
+fill_accesses-requires c = side_second _ c.requires.proper _ _ c.requires.room _ c.fill_covers.ensures
 
 pub fill_gaps-requires : goal.fill_gaps-requires
-fill_gaps-requires c =
-    side_gaps _ _ _ _ _ c.requires.lent _ c.fill_covers.ensures _ c.fill_accesses.ensures _ c.requires
+fill_gaps-requires c = side_gaps _ c.requires.proper _ _ c.requires.room _ c.fill_covers.ensures _ c.fill_accesses.ensures _ c.requires
 
 pub returns : goal.returns
-returns c = search (rules, side_plain)
+returns c = side_plain _ c.requires.proper _ _ c.requires.room _ c.fill_covers.ensures _ c.fill_accesses.ensures _ c.fill_gaps.ensures

@@ -1,5 +1,5 @@
 use borrow.Author.Rules.{rules}
-use Rattle.numbers.proofs.StemsPut.{stems_start, stems_next, stems_more, stems_all}
+use Rattle.numbers.proofs.StemsPut.{stems_start, stems_next, stems_more}
 use Rattle.numbers.proofs.stems.fill_stems.Goals as goal
 
 pub loop-j-init : goal.loop-j-init

@@ -3,4 +3,4 @@ use Rattle.numbers.proofs.StemsPut.{StemmingTo}
 use Rattle.numbers.proofs.stems.fill_stems.Given as goal
 
 abbrev pub invariant-loop-j : goal.invariant-loop-j
-invariant-loop-j l = StemmingTo l.old l.new l.pair l.at l.count l.last l.j l.initial.w l.w
+invariant-loop-j l = StemmingTo l.old l.new l.count l.last l.j l.initial.w l.w

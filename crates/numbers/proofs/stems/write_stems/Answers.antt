@@ -1,10 +1,7 @@
 -- `stems::write_stems` meets its contract: the last stem, then the others.
 use borrow.Author.Rules.{rules}
-use Rattle.numbers.proofs.StemsPut.{last_both, lines_few, stems_ready, stems_last}
+use Rattle.numbers.proofs.StemsPut.{lines_few, stems_ready, stems_last}
 use Rattle.numbers.proofs.stems.write_stems.Goals as goal
-
-pub last_stem-x-requires : goal.last_stem-x-requires
-last_stem-x-requires c = search (rules, last_both)
 
 pub put_stem-requires : goal.put_stem-requires
 put_stem-requires c = (search rules, search (rules, lines_few))

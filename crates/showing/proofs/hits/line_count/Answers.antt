@@ -6,5 +6,5 @@ use Rattle.showing.proofs.hits.line_count.Goals as goal
 pub overflow_add-result : goal.overflow_add-result
 overflow_add-result c = search (rules, lines_fit)
 
-pub returns : goal.returns
-returns c = search (rules, line_total)
+pub returns-clause-count : goal.returns-clause-count
+returns-clause-count c = search (rules, line_total)

@@ -13,7 +13,7 @@ pub overflow_sub-c : goal.overflow_sub-c
 overflow_sub-c c = search (rules, role_from)
 
 pub role-requires : goal.role-requires
-role-requires c = (search rules, search (rules, role_there))
+role-requires c = search (rules, role_there)
 
 pub put-b-requires : goal.put-b-requires
 put-b-requires c = (search rules, search (rules, role_short))

@@ -10,7 +10,7 @@ pub returns-in_default-clause-bytes : goal.returns-in_default-clause-bytes
 returns-in_default-clause-bytes c = search (rules, no_ending_bytes)
 
 pub line_text-text-requires : goal.line_text-text-requires
-line_text-text-requires c = (search rules, (search rules, search (rules, ending_there)))
+line_text-text-requires c = search (rules, ending_there)
 
 pub slice_bounds-put-count : goal.slice_bounds-put-count
 slice_bounds-put-count c = search (rules, ending_long)

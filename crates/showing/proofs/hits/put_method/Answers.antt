@@ -24,10 +24,10 @@ returns-then-j-method_count-clause-bytes c = search (rules, old_bytes)
 
 pub returns-clause-offset : goal.returns-clause-offset
 returns-clause-offset c =
-    filler_offset _ _ _ _ c.requires.0 _ c.requires.1.0 _ _ _ _ _
-    refl c.method_count.ensures c.if-i-method_count.false refl c.method_count-2.ensures c.if-j-method_count.false c.method_number-n.ensures _ _ c.put_numbered.ensures.offset
+    filler_offset _ _ _ c.requires.0 _ c.requires.1.0 _ _ _ _ _
+    refl c.method_count.ensures.count c.if-i-method_count.false refl c.method_count-2.ensures.count c.if-j-method_count.false c.method_number-n.ensures _ _ c.put_numbered.ensures.offset
 
 pub returns-clause-bytes : goal.returns-clause-bytes
 returns-clause-bytes c =
-    filler_bytes _ _ _ _ c.requires.0 _ c.requires.1.0 _ _ _ _ _
-    refl c.method_count.ensures c.if-i-method_count.false refl c.method_count-2.ensures c.if-j-method_count.false c.method_number-n.ensures _ _ _ c.put_numbered.ensures.bytes
+    filler_bytes _ _ _ c.requires.0 _ c.requires.1.0 _ _ _ _ _
+    refl c.method_count.ensures.count c.if-i-method_count.false refl c.method_count-2.ensures.count c.if-j-method_count.false c.method_number-n.ensures _ _ _ c.put_numbered.ensures.bytes

@@ -4,7 +4,7 @@ use Rattle.showing.proofs.Pieces.{line_there, line_pattern, stem_offset, stem_by
 use Rattle.showing.proofs.hits.put_stem.Goals as goal
 
 pub line_text-requires : goal.line_text-requires
-line_text-requires c = (search rules, (search rules, search (rules, line_there)))
+line_text-requires c = search (rules, line_there)
 
 pub put_stem-requires : goal.put_stem-requires
 put_stem-requires c = (search rules, search (rules, line_pattern, line_there))
