@@ -7,7 +7,7 @@ use native.Mathlib.Decide.{dec_lt}
 use native.Mathlib.Numerals.{add-one}
 use native.Mathlib.Omega.{arith}
 use lib.ListN.{length, get_or, set, take, length-set, get_or-append}
-use lib.Seq.{get_or-set_same, get_or-set_other, get_or-append_seam, take-suc, take-length, length-take-le}
+use lib.Seq.{get_or-set_same, get_or-set_other, get_or-append_seam, take-suc, length-take-le}
 use borrow.Author.Tests.{ltb-false, lt-ltb, le-ltb}
 use Rattle.text.specs.Texts.{Text, member, index_of, Once}
 use Rattle.trials.specs.Fillers.{filler_method}
@@ -73,15 +73,6 @@ pub record PairedNew (os ns : List Text) (n i : ℕ) (pairs : List ℕ) : Type 0
   pub size : length pairs ≡ 128
 
 module _ (os ns : List Text) (n : ℕ) (n-is : n ≡ length ns) (pairs : List ℕ) where
-  -- none yet
-  pub new_start : length ns ≤ 31 → length pairs ≡ 128 → PairedNew os ns n 0 pairs
-  new_start h e = record {
-    up = record { size = e; few = omega arith; olds = λ i h. absurd (omega arith); news = λ i h. absurd (omega arith) };
-    so_far = omega arith;
-    few = omega arith;
-    size = e;
-  }
-
   module _ (i : ℕ) (P : PairedNew os ns n i pairs) where
     -- one more
     pub new_more : Once ns → (m : Text) (b : ℕ) → i < n → m ≡ get_or ns i [] → b ≡ index_of m os → PairedNew os ns n (i + 1) (with_pair i b i pairs)
@@ -95,10 +86,6 @@ module _ (os ns : List Text) (n : ℕ) (n-is : n ≡ length ns) (pairs : List �
           few = P.few;
           size = U.size;
         }
-
-    -- all of them
-    pub new_end : n ≤ i → PairedUp os ns ns pairs
-    new_end h = let z : i ≡ length ns = omega (arith, P.so_far) in rw (z, take-length ns) at P.up
 
 -- ---- further ones of old
 -- one text more, that is one of the first list, and one that isn't
@@ -178,17 +165,6 @@ module _ (os ns : List Text) where
               few = (omega (arith, P.few.0), P.few.1, P.few.2);
               size = U.size;
             }
-
-      -- all of them
-      module _ (h : n ≤ j) where
-        whole : take j os ≡ os
-        whole = let z : j ≡ length os = omega (arith, P.so_far) in rw (z, take-length os)
-
-        pub old_end : PairedUp os ns (joined ns os) pairs
-        old_end = rw whole at P.up
-
-        pub old_count : count ≡ length (joined ns os)
-        old_count = rw whole at P.count_is
 
   -- ---- and the filler method
   abbrev filler : Text

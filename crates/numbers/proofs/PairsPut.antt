@@ -11,9 +11,9 @@ use Rattle.text.proofs.Indices.{index_bound}
 use Rattle.grants.specs.Sides.{PairedUp}
 use Rattle.firsts.specs.Keeping.{Kept}
 use Rattle.numbers.specs.Writes.{BothLent, PairsWritten, MethodsWritten, put_pair}
-use Rattle.firsts.proofs.Keepings.{kept_all, kept_set, kept_then, part_length}
+use Rattle.firsts.proofs.Keepings.{kept_all, kept_set, kept_then}
 use Rattle.trials.specs.Trials.{joined}
-use Rattle.numbers.proofs.Pairings.{with_pair, PairedNew, PairedOld, new_start, new_more, new_end, old_start, old_known, old_more, old_end, old_count, all_paired}
+use Rattle.numbers.proofs.Pairings.{with_pair, PairedNew, PairedOld, new_more, old_start, old_known, old_more, all_paired}
 
 -- ---- one pair
 -- a number stored in a region
@@ -42,10 +42,6 @@ module _ (old new : View) (at : ℕ) where
   abbrev ns : List Text
   ns = new.methods
 
-  -- the region has 128 numbers
-  region : (w : List ℕ) → BothLent old new at 128 w → length (part at (at + 128) w) ≡ 128
-  region w B = part_length at (at + 128) w (omega arith) B.room ∙ omega arith
-
   -- ---- those of new
   -- the first i of n are paired
   pub record PairingNew (n i : ℕ) (w₀ w : List ℕ) : Type 0 where
@@ -55,15 +51,6 @@ module _ (old new : View) (at : ℕ) where
     pub up : PairedNew os ns n i (part at (at + 128) w)
 
   module _ (n : ℕ) where
-    -- none yet
-    pub pairing_start : (w : List ℕ) → n ≡ length ns → BothLent old new at 128 w → PairingNew n 0 w w
-    pairing_start w e B = record {
-      all = e;
-      lent = B;
-      kept = kept_all at (at + 128) w;
-      up = new_start os ns n e (part at (at + 128) w) B.news.few_methods (region w B);
-    }
-
     module _ (i : ℕ) (w₀ w : List ℕ) (P : PairingNew n i w₀ w) where
       -- one more
       pub pairing_more : (m : Text) (b : ℕ) (v : List ℕ) → i < n → m ≡ get_or ns i [] → b ≡ index_of m os → v ≡ put_pair at i b i w → PairingNew n (i + 1) w₀ v
@@ -84,10 +71,6 @@ module _ (old new : View) (at : ℕ) where
       -- its number is small
       pub pairing_small : (m : Text) (b : ℕ) → b ≡ index_of m os → b < 4294967296
       pairing_small m b q = omega (arith, P.lent.olds.few_methods, index_bound m os)
-
-      -- all of them
-      pub pairing_end : n ≤ i → PairsWritten os ns ns at w₀ w
-      pairing_end h = record { kept = P.kept; up = new_end os ns n P.all (part at (at + 128) w) i P.up h }
 
   -- ---- further ones of old
   -- those of the first j of n are paired behind new's own
@@ -133,18 +116,6 @@ module _ (old new : View) (at : ℕ) where
               kept = pair_kept at count j own w₀ w few P.kept;
               up = rw (pair_part at count j own w few) U;
             })
-
-      -- there is room for it
-      pub further_room : j < n → count < 64
-      further_room h = omega (arith, P.up.few.0, P.up.few.1, P.up.few.2)
-
-      -- all of them
-      module _ (h : n ≤ j) where
-        pub further_end : PairsWritten os ns (joined ns os) at w₀ w
-        further_end = record { kept = P.kept; up = old_end os ns own n P.own_all P.all (part at (at + 128) w) count j P.up h }
-
-        pub further_count : count ≡ length (joined ns os)
-        further_count = old_count os ns own n P.own_all P.all (part at (at + 128) w) count j P.up h
 
   -- ---- and the filler method
   module _ (w : List ℕ) (B : BothLent old new at 128 w) where

@@ -2,10 +2,10 @@
 use mathlib.Core.Path.{◌≡◌, refl, sym, ap, ap₂, fun_ext, ◌∙◌}
 use mathlib.Core.Bool.{Bool, true, false, not, cond, ◌&&◌, ◌||◌, and-true, and-false, or-false}
 use mathlib.Core.List.{List, [], ◌∷◌, ◌++◌}
-use Prim.Native.Nat.{ℕ, zero, suc, ◌+◌, ◌-◌, ◌*◌, ◌≤◌, ◌<◌}
+use Prim.Native.Nat.{ℕ, zero, suc, ◌+◌, ◌-◌, ◌≤◌, ◌<◌}
 use native.Mathlib.Omega.{arith}
 use lib.ListN.{length, get_or, take, drop, length-append, take-append-drop}
-use lib.Seq.{take_all, length-take-le, get_or-take}
+use lib.Seq.{length-take-le, get_or-take}
 use lib.Dec.{eqb, ltb, leb}
 use native.Mathlib.Decide.{dec_lt}
 use Rattle.std.proofs.Common.{Option, Some, None, ◌==◌}
@@ -25,7 +25,7 @@ use Rattle.text.proofs.Spans.{same_equal, same_self, starts_short, stripped_end}
 use Rattle.decisions.specs.Matching.{is_under}
 use Rattle.matching.specs.Strengths.{kind_strength, rooted_strength, starred_strength, start_leading, lead_by, lead, leading}
 use Rattle.matching.specs.declared.Leading.{Leading}
-use Rattle.grants.specs.Scratch.{best_number, below_strength, stem_strength, leading_by}
+use Rattle.grants.specs.Scratch.{below_strength, stem_strength, leading_by}
 use Rattle.reading.specs.Views.{View, texts}
 use Rattle.numbers.specs.Stemming.{line_among, is_firm_text, Findable, Lacking}
 
@@ -268,13 +268,6 @@ unfolding kind_of same starts_with
 starred_kind u e = let r = (starts_plain (bytes "*.") u).0 e in rw r.1
 
 -- ---- the strongest by numbers
--- one more
-pub leads_taken : (x : Leading) (v : ℕ) → x.most < v → record { seen = x.seen + 1; at = x.seen; most = v } ≡ lead_by x v
-leads_taken x v h = rw (lt-ltb x.most v h)
-
-pub leads_kept : (x : Leading) (v : ℕ) → v ≤ x.most → record { seen = x.seen + 1; at = x.at; most = x.most } ≡ lead_by x v
-leads_kept x v h = rw (le-ltb x.most v h)
-
 pub by_none : (g : Text → ℕ) (ts : List Text) → start_leading ≡ leading_by g (take 0 ts)
 unfolding leading_by run
 by_none g ts = refl
@@ -284,10 +277,6 @@ module _ (g : Text → ℕ) (ts : List Text) (x : Leading) (k : ℕ) (e : x ≡ 
   pub by_step : (n : ℕ) (t : Text) (v : ℕ) (y : Leading) → n ≡ length ts → k < n → t ≡ get_or ts k [] → v ≡ g t → y ≡ lead_by x v → y ≡ leading_by g (take (k + 1) ts)
   unfolding leading_by
   by_step n t v y i h q r z = z ∙ rw (e, r, q) (sym (run_step (λ (x : Leading) (u : Text). lead_by x (g u)) start_leading ts k [] (rw i at h)))
-
-  -- all of them
-  pub by_all : (n : ℕ) → n ≡ length ts → n ≤ k → x ≡ leading_by g ts
-  by_all n i h = e ∙ ap (leading_by g) (take_all k ts (rw i at h))
 
 -- it counts the texts
 pub by_count : (x : Leading) (v k : ℕ) (y : Leading) → x.seen ≡ k → y ≡ lead_by x v → y.seen ≡ k + 1
@@ -368,14 +357,3 @@ module _ (t : Text) (firm : is_firm_text t ≡ true) (full : length t ≡ 0 → 
   -- it is not `/`
   pub found_longer : same t (bytes "/") ≡ false
   found_longer = rooted.0
-
--- ---- what is written of it
-module _ (x : Leading) where
-  pub best_none : x.most ≡ 0 → 0 ≡ best_number x
-  best_none e = rw (eq-eqb x.most 0 e)
-
-  pub best_firm : (x.most ≡ 0 → ⊥) → 3 ≤ x.most → 2 * (x.at + 1) + 1 ≡ best_number x
-  best_firm n h = rw (ne_eqb x.most 0 n, le-leb 3 x.most h)
-
-  pub best_soft : (x.most ≡ 0 → ⊥) → x.most < 3 → 2 * (x.at + 1) ≡ best_number x
-  best_soft n h = rw (ne_eqb x.most 0 n, lt-leb 3 x.most h) (omega arith)

@@ -103,10 +103,6 @@ module _ (map : List ℕ) (own x n : ℕ) where
   set_start = record { so_far = sym (set_none 32 (λ j. ltb j 0 && is_in map own x j) (λ j. rw (le-ltb j 0 (omega arith)))); ahead = omega arith }
 
   module _ (i out : ℕ) (R : Renumbering map own x n i out) where
-    -- all of them
-    pub set_all : n ≤ i → out ≡ renumbered_by map n own x
-    set_all h = let z : i ≡ n = omega (arith, R.ahead) in R.so_far ∙ rw z
-
     module _ (h : i < n) (j : ℕ) (index : j ≡ get_or map i 0) where
       -- a role that the view hasn't
       pub set_lacks : own ≤ j → Renumbering map own x n (i + 1) out

@@ -252,9 +252,6 @@ module _ (old new : View) (fs : List ℕ) (text : Text) (f : ℕ) (S : Spottable
   os = texts old
 
   module _ (n : ℕ) (n-is : n ≡ length ns) (x : ℕ) (x-is : x ≡ f) where
-    pub spot_few : n + 128 ≤ 257
-    spot_few = omega (arith, S.news.few_patterns)
-
     pub spot_fits : n + 128 ≤ length fs
     spot_fits = omega (arith, S.news.few_patterns, S.size)
 

@@ -134,9 +134,6 @@ module _ (old new : View) where
               let e : i ≡ j = omega arith in
               rw e (subst (StemIs ol nl (get_or (nl ++ ol) j []) j) (sym (put_here j x w small S.laid.room)) X)
 
-      pub stems_all : n ≤ j → StemsWritten ol nl n w₀ w
-      stems_all h = let e : j ≡ n = omega (arith, S.so_far) in rw e at S.written
-
   -- ---- the last stem, and then the others
   module _ (n : ℕ) (w₀ : List ℕ) (L : FirstsLent old new n w₀) where
     pub lines_few : n ≤ 256
