@@ -26,7 +26,6 @@ use Rattle.reading.specs.declared.reader.Cursor.{Cursor}
 use Rattle.reading.specs.declared.reader.Lined.{Lined}
 use Rattle.listings.specs.declared.answers.Fault.TheVariants.{BadForm}
 use Rattle.text.proofs.Truths.{never, and_left, and_right}
-use Rattle.text.proofs.Spans.{from_on}
 use Rattle.reading.proofs.Walks.{line_bad, line_by}
 use Rattle.reading.proofs.Cuts.{stops, Field, none_left, one_more_lem, field_cut, field_newline, field_tabbed, part_none, line_unended, line_alone, line_unended_second, line_two, line_third}
 

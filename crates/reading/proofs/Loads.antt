@@ -3,18 +3,17 @@
 use mathlib.Core.Path.{◌≡◌, refl, sym, ap, ◌∙◌}
 use mathlib.Core.Bool.{Bool, true, false, not}
 use mathlib.Core.List.{List, []}
-use Prim.Native.Nat.{ℕ, zero, suc, ◌+◌, ◌≤◌, ◌<◌}
+use Prim.Native.Nat.{ℕ, ◌+◌, ◌≤◌, ◌<◌}
 use native.Mathlib.Omega.{arith}
 use native.Mathlib.Decide.{dec_le}
 use lib.ListN.{length, drop}
-use lib.Dec.{ltb}
 use borrow.Author.Tests.{lt-ltb, le-ltb}
 use Rattle.text.specs.Texts.{Text, same, part, starts_with}
 use Rattle.text.specs.Lines.{Line, lines_of}
 use Rattle.listings.specs.Refusals.{accepted, refusal, read_from, read_lines, reading_of, report}
 use Rattle.listings.specs.Listings.{records_in, records_of}
 use Rattle.entries.specs.Tables.{Tables, start_tables, tables_of}
-use Rattle.reading.specs.Fillings.{Filling, filled, unfilled, fill_from, answer_of, FillOutcome}
+use Rattle.reading.specs.Fillings.{Filling, filled, unfilled, fill_from, answer_of}
 use Rattle.entries.specs.Room.{listing_room}
 use Rattle.reading.specs.Readers.{Ready, standing_at, stopped, gone_first}
 use Rattle.reading.specs.Holds.{reading_shown, LoadOutcome}
@@ -24,7 +23,6 @@ use Rattle.entries.specs.declared.tables.Tally.{Tally}
 use Rattle.reading.specs.declared.reader.Reader.{Reader}
 use Rattle.reading.specs.declared.reader.Refusal.{Refusal}
 use Rattle.std.specs.Prelude.{Result, Ok, Err}
-use Rattle.listings.specs.Refusals.{number_of}
 use Rattle.worktable.specs.Work.{zeroed, work_after, is_short}
 use Rattle.worktable.proofs.Lengths.{too_short, long_enough}
 use Rattle.reading.specs.Outcomes.{report_of, read_report, ReadOutcome}
@@ -148,14 +146,7 @@ accepted_sound s a = by_size (dec_le (length s) 24576)
         let l : 24576 < length s = omega arith in
         absurd (refused LongListing 0 (sym (long s l) ∙ a))
 
--- ---- what is handed back
-pub report_whole : (side : ℕ) (l : Result Tally Refusal) (t : Tally) (x : Report) → l ≡ Ok t → x ≡ report 0 0 0 → x ≡ report_of side (reading_shown l)
-report_whole side l t x e h = h ∙ rw e
-
-pub report_not : (side : ℕ) (l : Result Tally Refusal) (f : Refusal) (m : ℕ) (x : Report) → l ≡ Err f → m ≡ number_of f.fault → x ≡ report m side f.line → x ≡ report_of side (reading_shown l)
-report_not side l f m x e q h = h ∙ rw (e, q)
-
--- of a listing that is loaded
+-- ---- what is handed back of a listing that is loaded
 pub loaded_reported : (side : ℕ) (s : Text) (l : Result Tally Refusal) (w : List ℕ) (r : Report) → LoadOutcome s l w → r ≡ report_of side (reading_shown l) → r ≡ report_of side (reading_of s)
 loaded_reported side s l w r L e = e ∙ ap (report_of side) L.answer
 

@@ -14,53 +14,19 @@ use lib.ListN.{length, drop, get_or, drop_of_length-le}
 use Rattle.text.specs.Texts.{Text, newline}
 use Rattle.text.specs.Lines.{Line, before, lines_of}
 use Rattle.listings.specs.Records.{Record, is_kind, formed}
-use Rattle.entries.specs.Tables.{Tables, Fits, Stepping, next, wrong, start_tables, region, texts_at, spans_at, step_from, record_with, tables_at, StepFits, StepOutcome}
-use Rattle.reading.specs.Fillings.{Lining, bad, moved, ended, Filling, unfilled, closing, fill_from, fill_shown, FillFits, FillOutcome, closed_at, line_shown, is_end_kind, lined_by, line_with, line_from, LineEnd, Gone, LineFits, LineOutcome}
+use Rattle.entries.specs.Tables.{Tables, Fits, Stepping, next, wrong, start_tables, region, texts_at, spans_at, step_from, tables_at}
+use Rattle.reading.specs.Fillings.{Lining, bad, moved, ended, Filling, unfilled, closing, fill_from, fill_shown, FillFits, FillOutcome, closed_at, line_shown, lined_by, line_with, line_from, Gone, LineFits, LineOutcome}
 use Rattle.reading.specs.Readers.{Ready}
 use Rattle.entries.specs.Tallies.{start_tally}
 use Rattle.reading.specs.declared.reader.Refusal.{Refusal}
-use Rattle.listings.specs.declared.records.Kind.{Kind}
 use Rattle.listings.specs.declared.records.Kind.TheVariants.{End}
 use Rattle.listings.specs.declared.answers.Fault.{Fault}
-use Rattle.listings.specs.declared.answers.Fault.TheVariants.{BadForm, NoEnd}
+use Rattle.listings.specs.declared.answers.Fault.TheVariants.{NoEnd}
 use Rattle.entries.specs.declared.tables.Tally.{Tally}
 use Rattle.std.specs.Prelude.{Result, Ok, Err}
 use Rattle.reading.specs.declared.reader.Cursor.{Cursor}
 use Rattle.reading.specs.declared.reader.Lined.{Lined}
 use Rattle.reading.specs.declared.reader.Lined.TheVariants.{Moved, Ended}
-
--- ---- a line of a record, by its step
-module _ (s : Text) (c : Cursor) (T : Tables) (k : Kind) (f : Text) (e : ℕ) (out : Result Tally Fault) (w : List ℕ) (o : StepOutcome s (step_from T (record_with k f)) out w) where
-  pub named_wrong : (g : Fault) → out ≡ Err g → LineOutcome s c (line_with T (some (record_with k f)) (lines_of (drop (e + 1) s))) (Err g) w
-  named_wrong g p =
-      record {
-        answer = rw (← o.answer, p);
-        fits = tt;
-      }
-
-  module _ (u : Tally) (p : out ≡ Ok u) (l : LineEnd s c e) (b : Bool) (i : b ≡ is_end_kind k) (d : Cursor) (z : d ≡ record { at = e + 1; line = c.line + 1 }) where
-    gone : Gone s c u d w
-    gone =
-        record {
-          fits = subst (λ (x : Result Tally Fault). StepFits s x w) p o.fits;
-          on = rw z (omega (arith, l.from));
-          within = rw z (omega (arith, l.here));
-          counted = rw z;
-        }
-
-    pub named_ended : b ≡ true → LineOutcome s c (line_with T (some (record_with k f)) (lines_of (drop (e + 1) s))) (Ok (Ended u d)) w
-    named_ended t =
-        record {
-          answer = rw (← o.answer, p, ← i, t, z);
-          fits = gone;
-        }
-
-    pub named_moved : b ≡ false → LineOutcome s c (line_with T (some (record_with k f)) (lines_of (drop (e + 1) s))) (Ok (Moved u d)) w
-    named_moved t =
-        record {
-          answer = rw (← o.answer, p, ← i, t, z);
-          fits = gone;
-        }
 
 -- ---- the line at the cursor
 pub line_bad : (s : Text) (c : Cursor) (due : Lining) (f : Fault) (w : List ℕ) → due ≡ bad f → LineOutcome s c due (Err f) w

@@ -1,5 +1,5 @@
 -- The line at an offset of the text, cut as the reader does. `proofs/Linecuts.antt` shows that by it the line of Lines and its record are read.
-use Rattle.std.specs.Prelude.{ℕ, ◌+◌, length, drop, get_or, eqb, cond, Option, Some, None}
+use Rattle.std.specs.Prelude.{ℕ, ◌+◌, drop, get_or, eqb, cond, Option, Some, None}
 use Rattle.text.specs.Texts.{Text, newline, part, all}
 use Rattle.text.specs.Bytes.{is_text}
 use Rattle.text.specs.Lines.{to_field_end}
