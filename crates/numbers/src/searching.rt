@@ -157,6 +157,7 @@ pub fn strongest_at(view: &View, text: &[u8]) -> Leading
 }
 
 // What is written of the strongest: 0 where nothing matches, else twice its line from 1, and one more where it is firm.
+// Kept: one number, since the scratch holds numbers in fixed memory, and `best_number` of grants' definitions says which.
 pub fn best_number(x: Leading) -> u32
     requires { x.at < 1000 }
     ensures { result ≡ best_number x }

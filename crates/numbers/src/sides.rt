@@ -29,6 +29,7 @@ pub fn fill_covers(view: &View, w: &mut [u32], at: usize)
 }
 
 // 0 open, 1 closed, 2 by role.
+// Kept: no `From`, since neither `Access` nor `u32` is of this crate; the scratch holds numbers, and `access_number` of grants' definitions says which.
 pub fn access_number(a: Access) -> u32
     ensures { result ≡ access_number a }
 {
