@@ -2,7 +2,7 @@
 -- the results of its calls, the tests that it has made, and the counts and the table that it hands back.
 use mathlib.Core.Path.{◌≡◌, refl, sym, ap, ◌∙◌}
 use mathlib.Core.Logic.{◌⊎◌, inl, inr}
-use mathlib.Core.Bool.{Bool, true, false, not, cond}
+use mathlib.Core.Bool.{Bool, true, false, not}
 use mathlib.Core.List.{List}
 use mathlib.Core.Option.{Option, none, some}
 use Prim.Native.Nat.{ℕ, ◌+◌, ◌-◌, ◌≤◌, ◌<◌}
@@ -15,7 +15,7 @@ use Rattle.text.specs.Texts.{Text, bytes, same, all, part, index_of}
 use Rattle.text.specs.Bytes.{is_text, is_token, between}
 use Rattle.names.specs.Names.{is_star, made_of, is_name, is_role_name, is_method_name, is_pattern, is_constraint_kind}
 use Rattle.listings.specs.Records.{may_follow}
-use Rattle.entries.specs.Sets.{with_member, without_member, lowest}
+use Rattle.entries.specs.Sets.{with_member, lowest}
 use Rattle.listings.specs.Heads.{is_first_method}
 use Rattle.entries.specs.Tables.{Tables, packed, Fits, Field, StepOutcome, Steps, stepped_by, next, tables_at, region, texts_at, found, check_role, check_constraint, check_allow, check_collection, check_pattern, check_method, add_role, add_constraint, add_allow, add_collection, add_pattern, add_method, add_omit, add_line, marked, stage_behind, field_check, field_add, check_record, step_from, record_with, spanned}
 use Rattle.entries.specs.Tallies.{tally_at, tally_role, tally_constraint, tally_allowed, tally_collection, tally_pattern, tally_line, tally_method}
