@@ -7,7 +7,7 @@ use native.Mathlib.Omega.{arith}
 use lib.ListN.{length, get_or}
 use lib.Seq.{sets}
 use Rattle.std.specs.Prelude.{Option, Some, None}
-use Rattle.text.specs.Texts.{Text, bytes, part}
+use Rattle.text.specs.Texts.{Text, bytes}
 use Rattle.listings.specs.Refusals.{report}
 use Rattle.names.specs.Patterns.{extension, kind_of}
 use Rattle.listings.specs.Listings.{listing_of}
@@ -24,8 +24,6 @@ use Rattle.walks.specs.Walks.{walked, hit_path, hit_shown}
 use Rattle.walks.specs.declared.walking.Hit.{Hit}
 use Rattle.walks.proofs.Hits.{walkable, hit_behind, hit_method, hit_caller}
 use Rattle.walks.proofs.Verdict.{walked_verdict}
-use Rattle.numbers.specs.Writes.{old_view, new_view}
-use Rattle.firsts.specs.declared.pairs.Pair.{Pair}
 use Rattle.showing.specs.Shown.{tried_of, Telling, EndingIn, FoundIn, found_request}
 use Rattle.showing.proofs.Pieces.{wider_short}
 use Rattle.comparisons.specs.Outcomes.{answered, compared_both, comparison_for, answer_for}
@@ -44,56 +42,50 @@ module _ (old new : View) (h : Option Hit) (is : h ≡ None) where
   none_written out out' long e = let k : length (bytes "verdict\tno wider\n") ≤ length out = omega arith in rw is (e ∙ sets_start (bytes "verdict\tno wider\n") out k)
 
 -- a hit
-module _ (old new : Text) (w : List ℕ) (pair : Pair) (T : Telling old new w pair) (h : Option Hit) (trial : IsTrial (old_view old w pair) (new_view new w pair) h) (n : ℕ)
-    (F : IsFiller (old_view old w pair) (new_view new w pair) n) (one : Hit) (is : h ≡ Some one) where
-  abbrev ov : View
-  ov = old_view old w pair
-
-  abbrev nv : View
-  nv = new_view new w pair
-
-  pub found_in : FoundIn ov nv one
+module _ (old new : View) (x : List ℕ) (T : Telling old new x) (h : Option Hit) (trial : IsTrial old new h) (n : ℕ)
+    (F : IsFiller old new n) (one : Hit) (is : h ≡ Some one) where
+  pub found_in : FoundIn old new one
   found_in = rw is at trial
 
   abbrev text : Text
-  text = answer_of (Opt.some (found_request ov nv n one))
+  text = answer_of (Opt.some (found_request old new n one))
 
-  text_is : answer_of (hit_shown ov nv h) ≡ text
+  text_is : answer_of (hit_shown old new h) ≡ text
   unfolding filler
   text_is =
-      ap (λ (y : Option Hit). answer_of (hit_shown ov nv y)) is
-      ∙ ap (λ (f : ℕ). answer_of (Opt.some (request (hit_path (numbered (bytes "q") f) (texts_of ov nv) one.stem one.ending) (get_or (tried_of ov nv) one.caught.method []) (caller_at nv.roles one.caught.caller)))) (sym F)
+      ap (λ (y : Option Hit). answer_of (hit_shown old new y)) is
+      ∙ ap (λ (f : ℕ). answer_of (Opt.some (request (hit_path (numbered (bytes "q") f) (texts_of old new) one.stem one.ending) (get_or (tried_of old new) one.caught.method []) (caller_at new.roles one.caught.caller)))) (sym F)
 
   short : length text ≤ 1024
-  short = wider_short old new w pair T one found_in n
+  short = wider_short old new x T one found_in n
 
   pub hit_short : (r : ℕ) → r ≡ length text → r ≤ 1024
   hit_short r p = omega (arith, short)
 
-  pub hit_handed : (r : ℕ) (x : Comparison) → r ≡ length text → x ≡ record { report = report 0 0 0; length = r } → x ≡ comparison_for (compared_hit ov nv h)
+  pub hit_handed : (r : ℕ) (x : Comparison) → r ≡ length text → x ≡ record { report = report 0 0 0; length = r } → x ≡ comparison_for (compared_hit old new h)
   hit_handed r x p q = q ∙ rw (p, text_is)
 
-  pub hit_written : (out out' : Text) → 1024 ≤ length out → out' ≡ sets out 0 text → out' ≡ answer_for (compared_hit ov nv h) out
+  pub hit_written : (out out' : Text) → 1024 ≤ length out → out' ≡ sets out 0 text → out' ≡ answer_for (compared_hit old new h) out
   hit_written out out' long p = rw text_is (p ∙ sets_start text out (omega (arith, short)))
 
 -- ---- the walk's hit
-module _ (old new : Text) (w : List ℕ) (pair : Pair) (c : Counts) (P : Prepared old new w pair c) where
-  pub walk_safe : Walkable (part 2048 4096 w) c
-  walk_safe = walkable (old_view old w pair) (new_view new w pair) P.both.olds.proper P.both.news.proper (part 2048 4096 w) c P.numbers
+module _ (old new : View) (x : List ℕ) (c : Counts) (P : Prepared old new x c) where
+  pub walk_safe : Walkable x c
+  walk_safe = walkable old new P.both.olds P.both.news x c P.numbers
 
-  pub tells : Telling old new w pair
-  tells = record { both = P.both; long = P.long; methods = rw (← P.numbers.methods.all) P.numbers.methods }
+  pub tells : Telling old new x
+  tells = record { both = P.both; long = P.numbers.size; methods = rw (← P.numbers.methods.all) P.numbers.methods }
 
-  pub hit_trial : (h : Option Hit) → h ≡ walked (part 2048 4096 w) c → IsTrial (old_view old w pair) (new_view new w pair) h
+  pub hit_trial : (h : Option Hit) → h ≡ walked x c → IsTrial old new h
   hit_trial None q = tt
   hit_trial (Some h) q = record {
-    ending = ends h.ending (hit_behind (old_view old w pair) (new_view new w pair) P.both.news.proper (part 2048 4096 w) c P.numbers h (sym q));
-    method = hit_method (old_view old w pair) (new_view new w pair) P.both.news.proper (part 2048 4096 w) c P.numbers h (sym q);
-    caller = hit_caller (old_view old w pair) (new_view new w pair) P.both.news.proper (part 2048 4096 w) c P.numbers h (sym q);
+    ending = ends h.ending (hit_behind old new P.both.news x c P.numbers h (sym q));
+    method = hit_method old new P.both.news x c P.numbers h (sym q);
+    caller = hit_caller old new P.both.news x c P.numbers h (sym q);
   }
     where
       ts : List Text
-      ts = texts_of (old_view old w pair) (new_view new w pair)
+      ts = texts_of old new
 
       ends : (e : Option ℕ) → ((i : ℕ) → e ≡ Some i → (i < length ts) × ((t : Text) × (kind_of (get_or ts i []) ≡ extension t))) → EndingIn ts e
       ends None f = tt
@@ -108,9 +100,8 @@ module _ (old new : View) (h g : Option Hit) (is : h ≡ g) where
   walked_written out out' e = e ∙ ap (λ (y : Option Hit). answer_for (compared_hit old new y) out) is
 
 -- ---- of two listings
-pub listings_told : (old new : Text) (w : List ℕ) (pair : Pair) → BothRead old new w pair → (x : List ℕ) (c : Counts) → Numbered (old_view old w pair) (new_view new w pair) x c
-    → compared_hit (old_view old w pair) (new_view new w pair) (walked x c) ≡ compared_both old new
-listings_told old new w pair B x c Z =
-    let Z' : Numbered (view_of (listing_of old)) (view_of (listing_of new)) x c = rw (B.olds.view, B.news.view) at Z in
+pub listings_told : (s t : Text) (old new : View) → BothRead s t old new → (x : List ℕ) (c : Counts) → Numbered old new x c → compared_hit old new (walked x c) ≡ compared_both s t
+listings_told s t old new B x c Z =
+    let Z' : Numbered (view_of (listing_of s)) (view_of (listing_of t)) x c = rw (B.olds.view, B.news.view) at Z in
     rw (B.olds.view, B.news.view)
-    (ap (λ (r : Opt.Option _). answered (answer_of r)) (walked_verdict (listing_of old) (listing_of new) (accepted_proper old B.olds.accepts) (accepted_proper new B.news.accepts) x c Z'))
+    (ap (λ (r : Opt.Option _). answered (answer_of r)) (walked_verdict (listing_of s) (listing_of t) (accepted_proper s B.olds.accepts) (accepted_proper t B.news.accepts) x c Z'))

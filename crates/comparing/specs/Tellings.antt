@@ -1,29 +1,26 @@
 -- What the functions of the call hand to each other: for the proofs alone.
-use Rattle.std.specs.Prelude.{ℕ, ◌≤◌, ◌≡◌, List, length, Option, Some, None}
-use Rattle.text.specs.Texts.{Text, part}
-use Rattle.reading.specs.Holds.{HoldsListing}
+use Rattle.std.specs.Prelude.{ℕ, ◌≡◌, List, Option, Some, None}
+use Rattle.text.specs.Texts.{Text}
+use Rattle.reading.specs.Holds.{ListingHeld}
 use Rattle.reading.specs.Views.{View}
 use Rattle.trials.specs.Fillers.{first_number, fills}
 use Rattle.trials.specs.Answers.{answer_of}
 use Rattle.grants.specs.Scratch.{texts_of, Numbered}
 use Rattle.grants.specs.declared.scratch.Counts.{Counts}
-use Rattle.numbers.specs.Writes.{BothHeld, old_view, new_view}
-use Rattle.firsts.specs.declared.pairs.Pair.{Pair}
 use Rattle.walks.specs.Walks.{hit_shown}
 use Rattle.walks.specs.declared.walking.Hit.{Hit}
-use Rattle.showing.specs.Shown.{FoundIn}
+use Rattle.showing.specs.Shown.{BothProper, FoundIn}
 use Rattle.comparisons.specs.Outcomes.{Compared, answered}
 
--- the table holds two accepted listings
-pub record BothRead (old new : Text) (w : List ℕ) (pair : Pair) : Type 0 where
-  pub olds : HoldsListing old pair.old (part 0 1024 w)
-  pub news : HoldsListing new pair.new (part 1024 2048 w)
+-- two accepted listings and their views
+pub record BothRead (s t : Text) (old new : View) : Type 0 where
+  pub olds : ListingHeld s old
+  pub news : ListingHeld t new
 
--- the table has two views and their numbers
-pub record Prepared (old new : Text) (w : List ℕ) (pair : Pair) (c : Counts) : Type 0 where
-  pub both : BothHeld old new w pair
-  pub long : 4096 ≤ length w
-  pub numbers : Numbered (old_view old w pair) (new_view new w pair) (part 2048 4096 w) c
+-- the scratch has the numbers of two views
+pub record Prepared (old new : View) (x : List ℕ) (c : Counts) : Type 0 where
+  pub both : BothProper old new
+  pub numbers : Numbered old new x c
 
 -- n is the number of two views' filler
 abbrev pub IsFiller : View → View → ℕ → Type 0

@@ -1,10 +1,8 @@
 // The whole call: both listings read, their texts made numbers, the walk over these, and the answer.
-ghost use Rattle.std.specs.Prelude.{◌≡◌, ◌*◌, ◌≤◌, length, take, drop};
+ghost use Rattle.std.specs.Prelude.{◌≡◌, ◌*◌, ◌≤◌, length};
 ghost use Rattle.worktable.specs.Work.{zeroed};
 ghost use Rattle.listings.specs.Refusals.{reading_of};
 ghost use Rattle.reading.specs.Holds.{LoadOutcome};
-ghost use Rattle.text.specs.Texts.{part};
-ghost use Rattle.numbers.specs.Writes.{old_view, new_view};
 ghost use Rattle.walks.specs.Walks.{walked};
 ghost use Rattle.showing.specs.Shown.{Telling};
 ghost use Rattle.comparisons.specs.Outcomes.{compared_both, compared_old, comparison_for, answer_for, CompareOutcome};
@@ -14,10 +12,10 @@ use comparisons::answers;
 use comparisons::answers::Comparison;
 use entries::tables::Tally;
 use fillers::finding;
-use firsts::pairs::Pair;
 use grants::scratch::Counts;
 use listings::answers::{SHORT_TABLE, SMALL_ANSWER};
 use numbers::numbering;
+use reading::held::View;
 use reading::reader;
 use reading::reader::Refusal;
 use showing::hits;
@@ -25,93 +23,91 @@ use walks::walking;
 use walks::walking::Hit;
 
 // The answer that a hit is, where the filler's number is n.
-pub fn tell<'a, 'b>(
-    old: &'a [u8],
-    new: &'a [u8],
-    w: &'b [u32],
-    pair: Pair,
+pub fn tell<'a>(
+    old: &View<'a>,
+    new: &View<'a>,
+    x: &[u32],
     n: usize,
     h: Option<Hit>,
     answer: &mut [u8],
 ) -> Comparison
-    requires { ((Telling old.now new.now w.now pair × IsTrial (old_view old.now w.now pair) (new_view new.now w.now pair) h) × IsFiller (old_view old.now w.now pair) (new_view new.now w.now pair) n) × (1024 ≤ length answer.old) }
-    ensures handed { result ≡ comparison_for (compared_hit (old_view old.now w.now pair) (new_view new.now w.now pair) h) }
-    ensures answer { answer.new ≡ answer_for (compared_hit (old_view old.now w.now pair) (new_view new.now w.now pair) h) answer.old }
+    requires { ((Telling old.now new.now x.now × IsTrial old.now new.now h) × IsFiller old.now new.now n) × (1024 ≤ length answer.old) }
+    ensures handed { result ≡ comparison_for (compared_hit old.now new.now h) }
+    ensures answer { answer.new ≡ answer_for (compared_hit old.now new.now h) answer.old }
 {
     match h {
         None => answers::tell(writing::put(answer, 0, b"verdict\tno wider\n")),
-        Some(hit) => answers::tell(hits::put_wider(old, new, w, pair, n, hit, answer)),
+        Some(hit) => answers::tell(hits::put_wider(old, new, x, n, hit, answer)),
     }
 }
 
-// The answer of two views once their texts are numbers: what the walk finds.
-pub fn compare_numbers<'a, 'b>(
-    old: &'a [u8],
-    new: &'a [u8],
-    w: &'b [u32],
-    pair: Pair,
+// The answer of two views once their texts are numbers in the scratch: what the walk finds.
+pub fn compare_numbers<'a>(
+    old: &View<'a>,
+    new: &View<'a>,
+    x: &[u32],
     n: usize,
     c: Counts,
     answer: &mut [u8],
 ) -> Comparison
-    requires { (Prepared old.now new.now w.now pair c × IsFiller (old_view old.now w.now pair) (new_view new.now w.now pair) n) × (1024 ≤ length answer.old) }
-    ensures handed { result ≡ comparison_for (compared_hit (old_view old.now w.now pair) (new_view new.now w.now pair) (walked (part 2048 4096 w.now) c)) }
-    ensures answer { answer.new ≡ answer_for (compared_hit (old_view old.now w.now pair) (new_view new.now w.now pair) (walked (part 2048 4096 w.now) c)) answer.old }
+    requires { (Prepared old.now new.now x.now c × IsFiller old.now new.now n) × (1024 ≤ length answer.old) }
+    ensures handed { result ≡ comparison_for (compared_hit old.now new.now (walked x.now c)) }
+    ensures answer { answer.new ≡ answer_for (compared_hit old.now new.now (walked x.now c)) answer.old }
 {
-    let h = walking::walk(&w[2048..4096], c);
-    tell(old, new, w, pair, n, h, answer)
+    let h = walking::walk(x, c);
+    tell(old, new, x, n, h, answer)
 }
 
-// Two accepted listings that the table holds: what stands behind the first 4,096 numbers stays.
-pub fn compare_held<'a, 'b>(
-    old: &'a [u8],
-    new: &'a [u8],
-    pair: Pair,
+// The listings s and t, whose views these are; x is the scratch.
+pub fn compare_held<'a>(
+    s: &[u8],
+    t: &[u8],
+    old: &View<'a>,
+    new: &View<'a>,
+    x: &mut [u32],
     answer: &mut [u8],
-    w: &'b mut [u32],
 ) -> Comparison
-    requires { ((4096 ≤ length w.old) × BothRead old.now new.now w.old pair) × (1024 ≤ length answer.old) }
-    ensures handed { result ≡ comparison_for (compared_both old.now new.now) }
-    ensures answer { answer.new ≡ answer_for (compared_both old.now new.now) answer.old }
-    ensures rest { drop 4096 w.new ≡ drop 4096 w.old }
-    ensures size { length w.new ≡ length w.old }
+    requires { BothRead s.now t.now old.now new.now × ((length x.old ≡ 2048) × (1024 ≤ length answer.old)) }
+    ensures handed { result ≡ comparison_for (compared_both s.now t.now) }
+    ensures answer { answer.new ≡ answer_for (compared_both s.now t.now) answer.old }
 {
-    let n = finding::filler_number(old, pair.old, new, pair.new, w, 1024);
-    let c = numbering::number(old, new, w, pair);
-    compare_numbers(old, new, w, pair, n, c, answer)
+    let n = finding::filler_number(old, new, x);
+    let c = numbering::number(old, new, x);
+    compare_numbers(old, new, x, n, c, answer)
 }
 
-// What is compared once both listings are read, old into the first n numbers of w and new into the next n.
-pub fn compare_loaded<'a, 'b>(
+// What is compared once both listings are read, old into wo and new into wn.
+pub fn compare_loaded<'a>(
     lo: Result<Tally, Refusal>,
     ln: Result<Tally, Refusal>,
     old: &'a [u8],
     new: &'a [u8],
+    wo: &'a [u32],
+    wn: &'a [u32],
+    x: &mut [u32],
     answer: &mut [u8],
-    w: &'b mut [u32],
-    n: usize,
 ) -> Comparison
-    requires { (((n ≡ 1024) × (4 * n ≤ length w.old)) × (LoadOutcome old.now lo (take n w.old) × LoadOutcome new.now ln (take n (drop n w.old)))) × (1024 ≤ length answer.old) }
+    requires { (LoadOutcome old.now lo wo.now × LoadOutcome new.now ln wn.now) × ((length x.old ≡ 2048) × (1024 ≤ length answer.old)) }
     ensures handed { result ≡ comparison_for (compared_old old.now new.now (reading_of old.now)) }
     ensures answer { answer.new ≡ answer_for (compared_old old.now new.now (reading_of old.now)) answer.old }
-    ensures rest { (drop (4 * n) w.new ≡ drop (4 * n) w.old) × (length w.new ≡ length w.old) }
 {
     match lo {
         Err(r) => answers::refuse(u32::from(r.fault), 1, r.line),
         Ok(to) => match ln {
             Err(r) => answers::refuse(u32::from(r.fault), 2, r.line),
             Ok(tn) => {
-                let pair = Pair { old: to, new: tn };
-                compare_held(old, new, pair, answer, w)
+                let o = View::new(old, wo, to);
+                let n = View::new(new, wn, tn);
+                compare_held(old, new, &o, &n, x, answer)
             }
         },
     }
 }
 
-// The same with the first 4n numbers of w, which are 0 afterwards.
-pub fn compare_with<'a>(
-    old: &'a [u8],
-    new: &'a [u8],
+// The same with the first 4n numbers of w, which are 0 afterwards: n for each listing, 2n for the scratch.
+pub fn compare_with(
+    old: &[u8],
+    new: &[u8],
     answer: &mut [u8],
     w: &mut [u32],
     n: usize,
@@ -121,12 +117,12 @@ pub fn compare_with<'a>(
     ensures answer { answer.new ≡ answer_for (compared_old old.now new.now (reading_of old.now)) answer.old }
     ensures work { w.new ≡ zeroed (4 * n) w.old }
 {
-    let e = 2 * n;
-    let lo = reader::load(old, &mut w[..n]);
-    let ln = reader::load(new, &mut w[n..e]);
-    let c = compare_loaded(lo, ln, old, new, answer, w, n);
-    let whole = 4 * n;
-    worktable::zero_first(w, whole);
+    let (wo, rest) = w.split_at_mut(n);
+    let (wn, x) = rest.split_at_mut(n);
+    let lo = reader::load(old, wo);
+    let ln = reader::load(new, wn);
+    let c = compare_loaded(lo, ln, old, new, wo, wn, &mut x[..2 * n], answer);
+    worktable::zero_first(w, 4 * n);
     c
 }
 
@@ -138,9 +134,9 @@ const SHARE: usize = 1024;
 
 // Compares a new listing with an old one: the answer is the verdict's text, in the first `length` bytes of the answer buffer.
 #[unsafe(no_mangle)]
-pub extern "C" fn budquarry_compare<'a>(
-    old: &'a [u8],
-    new: &'a [u8],
+pub extern "C" fn budquarry_compare(
+    old: &[u8],
+    new: &[u8],
     answer: &mut [u8],
     work: &mut [u32],
 ) -> Comparison
