@@ -1,10 +1,11 @@
 -- The functions of the whole call: what each hands to the next is what the outcome speaks of.
 use mathlib.Core.Path.{◌≡◌, sym, ap, ◌∙◌}
 use mathlib.Core.Bool.{Bool, true, false}
-use mathlib.Core.List.{List}
-use Prim.Native.Nat.{ℕ, ◌*◌, ◌≤◌, ◌<◌}
+use mathlib.Core.List.{List, ◌++◌}
+use Prim.Native.Nat.{ℕ, ◌+◌, ◌*◌, ◌≤◌, ◌<◌}
 use native.Mathlib.Omega.{arith}
 use lib.ListN.{length, take, drop, replicate}
+use lib.Seq.{drop-drop, drop-append-add}
 use borrow.Author.Tests.{lt-ltb, le-ltb}
 use Rattle.std.specs.Prelude.{Result, Ok, Err}
 use Rattle.std.proofs.lemmas.List.{take_all}
@@ -26,18 +27,19 @@ use Rattle.comparisons.specs.declared.answers.Comparison.{Comparison}
 
 -- ---- two listings that are held
 module _ (s t : Text) (old new : View) (B : BothRead s t old new) where
-  pub both_prepared : (x : List ℕ) (c : Counts) → length x ≡ 2048 → Numbered old new (take 2048 x) c → Prepared old new x c
-  both_prepared x c l Z =
-      let all : take 2048 x ≡ x = take_all 2048 x (omega arith) in
-      record { both = record { olds = B.olds.proper; news = B.news.proper }; numbers = rw all at Z }
+  module _ (x : List ℕ) (c : Counts) (l : length x ≡ 2048) (Z : Numbered old new (take 2048 x) c) where
+    numbers_in : Numbered old new x c
+    numbers_in = let all : take 2048 x ≡ x = take_all 2048 x (omega arith) in rw all at Z
 
-  -- what the walk finds is the verdict of the two listings
-  module _ (x : List ℕ) (c : Counts) (P : Prepared old new x c) where
+    pub both_prepared : Prepared old new x c
+    both_prepared = record { olds = B.olds.proper; news = B.news.proper; numbers = numbers_in }
+
+    -- what the walk finds is the verdict of the two listings
     pub held_handed : (r : Comparison) → r ≡ comparison_for (compared_hit old new (walked x c)) → r ≡ comparison_for (compared_both s t)
-    held_handed r e = e ∙ ap comparison_for (listings_told s t old new B x c P.numbers)
+    held_handed r e = e ∙ ap comparison_for (listings_told s t old new B x c numbers_in)
 
     pub held_written : (out out' : Text) → out' ≡ answer_for (compared_hit old new (walked x c)) out → out' ≡ answer_for (compared_both s t) out
-    held_written out out' e = e ∙ ap (λ (y : Compared). answer_for y out) (listings_told s t old new B x c P.numbers)
+    held_written out out' e = e ∙ ap (λ (y : Compared). answer_for y out) (listings_told s t old new B x c numbers_in)
 
 -- read, with its view
 listing_held : (s : Text) (t : Tally) (w : List ℕ) (v : View) → HoldsListing s t w → v ≡ view_at s t w → ListingHeld s v
@@ -81,6 +83,24 @@ module _ (old new : Text) (lo ln : Result Tally Refusal) (wo wn : List ℕ) (O :
       both_written answer answer' p = rw (← O.answer, whole, ← N.answer, e) p
 
 -- ---- the work table
+-- the first 4n numbers are zero, whatever the listings' parts a and b and the scratch x became
+pub table_zeroed : (n : ℕ) (w a b x r s w' : List ℕ) → w' ≡ zeroed (4 * n) (a ++ (b ++ (x ++ drop (2 * n) s))) → length a ≡ n → length b ≡ n → length x ≡ 2 * n → r ≡ drop n w → s ≡ drop n r
+    → w' ≡ zeroed (4 * n) w
+unfolding zeroed
+table_zeroed n w a b x r s w' z p q l e f = z ∙ ap (λ (y : List ℕ). replicate (4 * n) 0 ++ y) (rest ∙ ap (drop (2 * n)) (f ∙ ap (drop n) e) ∙ behind)
+  where
+    rest : drop (4 * n) (a ++ (b ++ (x ++ drop (2 * n) s))) ≡ drop (2 * n) s
+    rest =
+        let k : 4 * n ≡ length a + (length b + (length x + 0)) = omega (arith, p, q, l) in
+        ap (λ (k : ℕ). drop k (a ++ (b ++ (x ++ drop (2 * n) s)))) k
+        ∙ drop-append-add a (b ++ (x ++ drop (2 * n) s)) (length b + (length x + 0))
+        ∙ drop-append-add b (x ++ drop (2 * n) s) (length x + 0)
+        ∙ drop-append-add x (drop (2 * n) s) 0
+
+    behind : drop (2 * n) (drop n (drop n w)) ≡ drop (4 * n) w
+    behind =
+        let k : n + (n + 2 * n) ≡ 4 * n = omega arith in
+        drop-drop (2 * n) n (drop n w) ∙ drop-drop (n + 2 * n) n w ∙ ap (λ (k : ℕ). drop k w) k
 
 -- ---- the whole call
 module _ (old new answer : Text) (w : List ℕ) (x : Comparison) where

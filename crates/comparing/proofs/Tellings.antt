@@ -71,17 +71,17 @@ module _ (old new : View) (x : List ℕ) (T : Telling old new x) (h : Option Hit
 -- ---- the walk's hit
 module _ (old new : View) (x : List ℕ) (c : Counts) (P : Prepared old new x c) where
   pub walk_safe : Walkable x c
-  walk_safe = walkable old new P.both.olds P.both.news x c P.numbers
+  walk_safe = walkable old new P.olds P.news x c P.numbers
 
   pub tells : Telling old new x
-  tells = record { both = P.both; long = P.numbers.size; methods = rw (← P.numbers.methods.all) P.numbers.methods }
+  tells = record { olds = P.olds; news = P.news; long = omega (arith, P.numbers.size); methods = rw (← P.numbers.methods.all) P.numbers.methods }
 
   pub hit_trial : (h : Option Hit) → h ≡ walked x c → IsTrial old new h
   hit_trial None q = tt
   hit_trial (Some h) q = record {
-    ending = ends h.ending (hit_behind old new P.both.news x c P.numbers h (sym q));
-    method = hit_method old new P.both.news x c P.numbers h (sym q);
-    caller = hit_caller old new P.both.news x c P.numbers h (sym q);
+    ending = ends h.ending (hit_behind old new P.news x c P.numbers h (sym q));
+    method = hit_method old new P.news x c P.numbers h (sym q);
+    caller = hit_caller old new P.news x c P.numbers h (sym q);
   }
     where
       ts : List Text

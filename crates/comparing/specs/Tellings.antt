@@ -2,14 +2,14 @@
 use Rattle.std.specs.Prelude.{ℕ, ◌≡◌, List, Option, Some, None}
 use Rattle.text.specs.Texts.{Text}
 use Rattle.reading.specs.Holds.{ListingHeld}
-use Rattle.reading.specs.Views.{View}
+use Rattle.reading.specs.Views.{View, ProperView}
 use Rattle.trials.specs.Fillers.{first_number, fills}
 use Rattle.trials.specs.Answers.{answer_of}
 use Rattle.grants.specs.Scratch.{texts_of, Numbered}
 use Rattle.grants.specs.declared.scratch.Counts.{Counts}
 use Rattle.walks.specs.Walks.{hit_shown}
 use Rattle.walks.specs.declared.walking.Hit.{Hit}
-use Rattle.showing.specs.Shown.{BothProper, FoundIn}
+use Rattle.showing.specs.Shown.{FoundIn}
 use Rattle.comparisons.specs.Outcomes.{Compared, answered}
 
 -- two accepted listings and their views
@@ -19,7 +19,8 @@ pub record BothRead (s t : Text) (old new : View) : Type 0 where
 
 -- the scratch has the numbers of two views
 pub record Prepared (old new : View) (x : List ℕ) (c : Counts) : Type 0 where
-  pub both : BothProper old new
+  pub olds : ProperView old
+  pub news : ProperView new
   pub numbers : Numbered old new x c
 
 -- n is the number of two views' filler
