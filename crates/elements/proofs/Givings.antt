@@ -1,6 +1,6 @@
 -- The laws of what an element gives, one for each way out of a function.
 use mathlib.Core.Path.{◌≡◌, refl, sym, ap, subst, ◌∙◌}
-use mathlib.Core.Bool.{Bool, true, false, cond, ◌&&◌, false≢true}
+use mathlib.Core.Bool.{Bool, true, false, ◌&&◌, false≢true}
 use mathlib.Core.List.{List, [], ◌++◌, append_assoc}
 use mathlib.Core.Option.{Option, none, some}
 use Rattle.std.specs.Prelude.{Result, Ok, Err}
@@ -8,9 +8,9 @@ use Rattle.std.specs.Result.{MatchResult, IsErrAnd, result_map_both}
 use Prim.Native.Nat.{ℕ, ◌+◌, ◌-◌, ◌≤◌, ◌<◌}
 use native.Mathlib.Omega.{arith}
 use native.Mathlib.Decide.{ℕ_discrete, dec_lt}
-use lib.Dec.{eqb, leb}
+use lib.Dec.{leb}
 use lib.ListN.{length, take, drop}
-use borrow.Author.Tests.{eq-eqb, ne_eqb, lt-leb}
+use borrow.Author.Tests.{ne_eqb, lt-leb}
 use Rattle.text.specs.Texts.{Text, bytes, part, all}
 use Rattle.text.specs.Bytes.{is_text, is_token}
 use Rattle.names.specs.Names.{made_of, is_name, is_role_name, is_method_name, is_pattern}
@@ -43,7 +43,7 @@ use Rattle.elements.specs.declared.giving.Went.{Went}
 use Rattle.elements.specs.declared.rows.Effect.{Effect}
 use Rattle.elements.specs.declared.rows.Effect.TheVariants as E
 use Rattle.elements.specs.declared.rows.Leaf.{Leaf}
-use Rattle.elements.specs.Rows.{phase_at, effect_at, is_text_kind}
+use Rattle.elements.specs.Rows.{phase_at, is_text_kind}
 use Rattle.elements.specs.Goings.{stood, Going, read_on, done_by, reached_at, Tagged, Entered, Saying, Gone, FaultsAt, Given, Done, opened_by, adding_at, saying_at}
 use Rattle.elements.proofs.Goings.{got_on, fault_on, on_stops, at_stops, got_goes, on_goes, at_returns, on_true}
 use Rattle.elements.proofs.Leavings.{adding_leaves, telling_leaves}

@@ -1,6 +1,6 @@
 -- Where an element of a sort is out of place, and where something is missing: the checker computes it, phase by phase.
 use mathlib.Core.Path.{◌≡◌, refl}
-use mathlib.Core.Bool.{true, false}
+use mathlib.Core.Bool.{true}
 use Rattle.portals.specs.Elements.{misplaced, opening, found, is_complete}
 use Rattle.elements.specs.declared.rows.Phase.{Phase}
 use Rattle.elements.specs.declared.rows.Phase.TheVariants.{InApp, InRole, InConstraint, InCollected, InCollection, InPatterned, InMethods, InOmissions, InAuth, PassedOver}

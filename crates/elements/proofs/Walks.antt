@@ -2,24 +2,22 @@
 use mathlib.Core.Path.{◌≡◌, refl, sym, ap, ap₂, ◌∙◌}
 use mathlib.Core.Bool.{Bool, true, false, not, ◌||◌}
 use mathlib.Core.List.{List}
-use mathlib.Core.Logic.{◌⊎◌, inl, inr}
 use Prim.Native.Nat.{ℕ, zero, suc, ◌+◌, ◌-◌, ◌≤◌, ◌<◌}
 use native.Mathlib.Omega.{arith}
 use lib.Dec.{eqb}
 use lib.ListN.{length, drop, length-drop}
 use borrow.Author.Tests.{not-true, not-false}
-use Rattle.std.specs.Prelude.{Result, Ok, Err, IfOk}
+use Rattle.std.specs.Prelude.{Result, Ok, Err}
 use Rattle.text.specs.Texts.{Text, bytes, part, starts_with}
 use Rattle.documents.specs.Chars.{is_white, next, after}
-use Rattle.documents.specs.Parts.{Got, got, fault, malformed, deep, unwanted, Reader, ◌>>=◌, ◌>>◌, return, fault_at, choose, blamed, letter_of, comment, start_tag, second_tag, ends}
+use Rattle.documents.specs.Parts.{got, fault, malformed, deep, unwanted, Reader, ◌>>=◌, ◌>>◌, return, fault_at, choose, blamed, letter_of, comment, start_tag, second_tag, ends}
 use Rattle.documents.proofs.Steps.{run_true, run_false}
 use Rattle.documents.proofs.Leaves.{letter_leaves, comment_leaves, second_tag_leaves}
-use Rattle.markup.specs.declared.answers.Cause.{Cause}
 use Rattle.markup.specs.declared.answers.Cause.TheVariants.{Malformed, Deep, Unwanted}
 use Rattle.markup.specs.declared.answers.Fault.{Fault as Blame}
 use Rattle.markup.specs.declared.answers.Letter.{Letter}
 use Rattle.markup.specs.declared.answers.Start.{Start}
-use Rattle.markup.specs.Places.{blame, placed_as, read_as, read_at, place_of, Within, letter, start_at, Opening}
+use Rattle.markup.specs.Places.{blame, placed_as, read_as, read_at, Within, letter, start_at, Opening}
 use Rattle.markup.proofs.Steps as steps
 use Rattle.markup.proofs.Values.{letter_went}
 use Rattle.portals.specs.Elements as Does
@@ -37,8 +35,8 @@ use Rattle.elements.specs.declared.rows.Leaf.{Leaf}
 use Rattle.elements.specs.declared.rows.Opening.{Opening as Row}
 use Rattle.elements.specs.declared.rows.Opening.TheVariants as O
 use Rattle.elements.specs.Rows.{phase_at, passing, sort_at, effect_at, opening_of}
-use Rattle.elements.specs.Goings.{Going, stood, read_on, shown_by, came, reached_at, Ready, Entered, Gone, Passes, Done, opened_by, content_at, element_at, filling_at, holding_at, saying_at, entering_at}
-use Rattle.elements.proofs.Goings.{read_got, got_on, fault_on, same_on, on_stops, at_stops, got_goes, on_goes, at_returns, less_on, on_true, on_false, on_over, on_halts, on_turns}
+use Rattle.elements.specs.Goings.{Going, stood, read_on, shown_by, reached_at, Ready, Entered, Gone, Passes, Done, opened_by, content_at, element_at, filling_at, holding_at, saying_at, entering_at}
+use Rattle.elements.proofs.Goings.{got_on, fault_on, same_on, on_stops, at_stops, got_goes, on_goes, at_returns, less_on, on_true, on_false, on_over, on_halts, on_turns}
 use Rattle.elements.proofs.Passings.{content_passed, not_passed, or_true}
 use Rattle.elements.proofs.Leavings.{leaves_blamed, doing_leaves, filling_leaves, contents_leave, nodes_leave, node_less}
 
@@ -109,9 +107,6 @@ pub row_there : (o : Does.Opening) (q : Phase) (k : Sort) (n : Text) → o ≡ o
 row_there o q k n e f = e ∙ ap (opening (phase_at q)) f
 
 -- ---- nodes
-pub ready_here : (s : Text) (i h : ℕ) (w : List ℕ) → Ready s i h w → Ready s i i w
-ready_here s i h w r = record { within = r.within; begun = omega arith; short = r.short; fits = r.fits }
-
 module _ (s : Text) (i h : ℕ) (q : Phase) (w : List ℕ) (d : ℕ) (t : Bool) (is : t ≡ next (eqb 60) (drop i s)) (r : Ready s i h w) where
   abbrev node_to : Result Went Blame → List ℕ → Type 0
   node_to g v = Gone s (read_on (node_in (element_at d) (length s - h) (reached_at s q w)) s i) g v
@@ -211,15 +206,6 @@ module _ (s : Text) (d h n : ℕ) (p : Phase) (w : List ℕ) (due : Going (Reach
 module _ (s : Text) (i : ℕ) (t : Start) (w : List ℕ) (e : Entered s i t w) where
   pub tag_here : i ≤ length s
   tag_here = let h = e.tag in omega (arith, h.opening.low, h.opening.high, h.within)
-
-  pub tag_named : t.end ≤ length s
-  tag_named = let h = e.tag in omega (arith, h.opening.high, h.within)
-
-  pub entered_ready : Ready s t.next i w
-  entered_ready = let h = e.tag in record { within = h.within; begun = omega (arith, h.opening.low, h.opening.high); short = h.short; fits = e.fits }
-
-  pub entered_still : (v : List ℕ) → Fits v → Entered s i t v
-  entered_still v f = record { tag = e.tag; fits = f }
 
   module _ (d : ℕ) (q : Phase) where
     abbrev fills_to : Result Went Blame → List ℕ → Type 0

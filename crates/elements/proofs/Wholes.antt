@@ -1,6 +1,6 @@
 -- The laws of a whole file, one for each way out of a function.
 use mathlib.Core.Path.{◌≡◌, refl, sym, ap, ◌∙◌}
-use mathlib.Core.Bool.{Bool, true, false, not}
+use mathlib.Core.Bool.{Bool, true, false}
 use mathlib.Core.List.{List, [], ◌∷◌}
 use Prim.Native.Nat.{ℕ, ◌+◌, ◌-◌, ◌≤◌, ◌<◌}
 use native.Mathlib.Omega.{arith}
@@ -24,7 +24,7 @@ use Rattle.ledger.specs.Places.{ledger_at, Fits}
 use Rattle.elements.specs.declared.giving.Went.{Went}
 use Rattle.elements.specs.declared.rows.Phase.TheVariants.{InApp}
 use Rattle.elements.specs.Goings.{stood, read_on, shown_by, reached_at, Ready, Gone, opened_by, filling_at, leading, trailing}
-use Rattle.elements.proofs.Goings.{read_got, fault_on, on_stops, at_stops, got_goes, on_goes, shown_returns, on_true, on_false, regrouped, alike_behind}
+use Rattle.elements.proofs.Goings.{fault_on, on_stops, at_stops, got_goes, on_goes, shown_returns, on_true, on_false, regrouped, alike_behind}
 use Rattle.elements.proofs.Leavings.{leaves_fault, leaves_whether, filling_leaves, contents_leave}
 
 -- ---- before the root

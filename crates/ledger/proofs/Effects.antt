@@ -332,26 +332,6 @@ module _ (s : Text) (w : List ℕ) (k p : ℕ) (t : Text) (o : Offered s w k p t
           hu : ledger_at s u ≡ W.with_lines (ledger_at s w) (suc (ledger_at s w).lines)
           hu = W.line_counted s w o.fits (omega arith)
 
--- ---- by the record's kind
-module _ (s : Text) (w : List ℕ) (k p : ℕ) (t : Text) (o : Offered s w k p t) where
-  -- a literal for the kind
-  pub offered_as : (j : ℕ) → k ≡ j → Offered s w j p t
-  offered_as j e = subst (λ (i : ℕ). Offered s w i p t) e o
-
-  pub judged_as : (j : ℕ) (n : Answer) (left : List ℕ) → k ≡ j → Judged s w j p n left → Judged s w k p n left
-  judged_as j n left e h = subst (λ (i : ℕ). Judged s w i p n left) (sym e) h
-
-  -- what is left is a pattern
-  module _ (h : HasText k) (a : k < 6) (b : k ≡ 0 → ⊥) (c : k ≡ 3 → ⊥) where
-    only_pattern : k ≡ 5
-    only_pattern = let d = h.0 in let e = h.1 in let f = h.2 in omega arith
-
-    pub offered_pattern : Offered s w 5 p t
-    offered_pattern = offered_as 5 only_pattern
-
-    pub judged_pattern : (n : Answer) (left : List ℕ) → Judged s w 5 p n left → Judged s w k p n left
-    judged_pattern n left j = judged_as 5 n left only_pattern j
-
 -- ---- a text of over 255 bytes
 -- is no name and no pattern
 long_made : (class : ℕ → Bool) (lo hi : ℕ) (t : Text) → hi ≤ 255 → 255 < length t → made_of class lo hi t ≡ false
