@@ -7,8 +7,7 @@ use native.Mathlib.Decide.{ℕ_discrete}
 use lib.Dec.{eqb}
 use lib.ListN.{length, drop, length-drop}
 use borrow.Author.Tests.{eq-eqb, ne_eqb}
-use Rattle.std.specs.Prelude.{Result, Ok, Err, IfOk}
-use Rattle.std.specs.Result.{result_map_both}
+use Rattle.std.specs.Prelude.{Result, Ok, Err}
 use Rattle.text.specs.Texts.{Text}
 use Rattle.documents.specs.Parts.{Fault, Got, got, fault, Reader, blamed, comment, end_tag, second_tag}
 use Rattle.markup.specs.declared.answers.Fault.{Fault as Blame}

@@ -12,13 +12,13 @@ use lib.ListN.{length, drop, get_or, length-drop, drop_of_length-le}
 use lib.Seq.{drop-cons}
 use borrow.Author.Tests.{eq-eqb, ne_eqb}
 use Rattle.text.specs.Texts.{Text, starts_with}
-use Rattle.documents.specs.Chars.{after, next, is_white, is_char, is_quote, is_name_start, is_name_byte}
-use Rattle.documents.specs.Parts.{Reader, whether, word, name, quote_mark, is_attribute, remark, ends, goes_on}
+use Rattle.documents.specs.Chars.{after, next, is_char, is_quote, is_name_start, is_name_byte}
+use Rattle.documents.specs.Parts.{Got, got, wrong, Reader, whether, word, name, quote_mark, remark, ends, goes_on}
 use Rattle.documents.proofs.Steps.{run_true}
 use Rattle.std.specs.Prelude.{Result, Ok, Err}
 use Rattle.markup.specs.declared.answers.Cause.TheVariants.{Malformed}
 use Rattle.markup.specs.declared.answers.Fault.{Fault as Blame}
-use Rattle.markup.specs.Places.{blame, placed_as, read_as, read_at}
+use Rattle.markup.specs.Places.{blame, placed_as, read_as, read_at, one_at}
 
 pub eqb_swap : (a b : ℕ) → eqb a b ≡ eqb b a
 eqb_swap a b = go (ℕ_discrete a b)
@@ -77,15 +77,6 @@ said {B} d n q = ap (refused {B = B}) q
 
 -- ---- one byte
 module _ (s : Text) (i : ℕ) (d : Blame) (q : d ≡ blame Malformed i) where
-  -- where a reader finds nothing, or is wrong at once
-  pub byte_none : (b : ℕ) → i ≤ length s → length s ≤ i → Err d ≡ read_at (word (b ∷ [])) s i
-  unfolding read_as word
-  byte_none b h l = said d i q ∙ rw (nothing_left s i l) (ap bad (omega arith))
-
-  pub byte_other : (b : ℕ) → i < length s → (get_or s i 0 ≡ b → ⊥) → Err d ≡ read_at (word (b ∷ [])) s i
-  unfolding read_as word whether
-  byte_other b l e = said d i q ∙ rw (here s i l, ne_eqb b (get_or s i 0) (λ p. e (sym p))) (ap bad (omega (arith, length-drop (i + 1) s)))
-
   pub name_none : i ≤ length s → length s ≤ i → Err d ≡ read_at name s i
   unfolding read_as name whether
   name_none h l = said d i q ∙ rw (nothing_left s i l) (ap bad (omega arith))
@@ -94,28 +85,48 @@ module _ (s : Text) (i : ℕ) (d : Blame) (q : d ≡ blame Malformed i) where
   unfolding read_as name whether
   name_other t l e h = said d i q ∙ rw (here s i l, sym e, h) (ap bad (omega (arith, length-drop (i + 1) s)))
 
-  pub quote_none : i ≤ length s → length s ≤ i → Err d ≡ read_at quote_mark s i
-  unfolding read_as quote_mark
-  quote_none h l = said d i q ∙ rw (nothing_left s i l) (ap bad (omega arith))
-
-  pub quote_other : (t : Bool) → i < length s → t ≡ is_quote (get_or s i 0) → t ≡ false → Err d ≡ read_at quote_mark s i
-  unfolding read_as quote_mark whether
-  quote_other t l e h = said d i q ∙ rw (here s i l, sym e, h) (ap bad (omega (arith, length-drop (i + 1) s)))
-
 module _ (s : Text) (i : ℕ) where
-  pub byte_same : (b : ℕ) → i < length s → get_or s i 0 ≡ b → Ok (i + 1) ≡ read_at (word (b ∷ [])) s i
+  -- a byte of a kind
+  pub one_none : (d : Blame) → d ≡ blame Malformed i → (p : ℕ → Bool) → length s ≤ i → Err d ≡ one_at p s i
+  one_none d q p l = said d i q ∙ rw (nothing_left s i l)
+
+  pub one_other : (d : Blame) → d ≡ blame Malformed i → (p : ℕ → Bool) → i < length s → p (get_or s i 0) ≡ false → Err d ≡ one_at p s i
+  one_other d q p l e = said d i q ∙ rw (here s i l, e)
+
+  pub one_read : (p : ℕ → Bool) → i < length s → p (get_or s i 0) ≡ true → Ok (i + 1) ≡ one_at p s i
+  one_read p l e = rw (here s i l, e)
+
+  pub byte_is : (b : ℕ) → i ≤ length s → (r : Result ℕ Blame) → r ≡ one_at (λ x. eqb x b) s i → r ≡ read_at (word (b ∷ [])) s i
   unfolding read_as word whether
-  byte_same b l e = rw (here s i l, eq-eqb b (get_or s i 0) (sym e)) (ap good (omega (arith, length-drop (i + 1) s)))
+  byte_is b h r f = f ∙ go (drop i s) refl
+    where
+      go : (x : Text) → drop i s ≡ x → one_at (λ x. eqb x b) s i ≡ read_at (word (b ∷ [])) s i
+      go [] e = rw e (ap bad (omega (arith, ap length e, length-drop i s)))
+      go (y ∷ x) e = rw e (turn (eqb y b) (eqb b y) (eqb_swap y b))
+        where
+          turn : (t u : Bool) → t ≡ u → cond t (Ok (i + 1)) (bad i) ≡ placed_as {A = Unit {0}} (λ a n. n) (length s) (elim u as (λ z. Got (Unit {0})) [ true ↦ got tt x | false ↦ wrong (y ∷ x) ])
+          turn true true h = ap good (omega (arith, ap length e, length-drop i s))
+          turn false false h = ap bad (omega (arith, ap length e, length-drop i s))
+          turn true false h = cc
+          turn false true h = cc
+
+  pub quote_is : i ≤ length s → (r : Result ℕ Blame) → r ≡ one_at is_quote s i → r ≡ read_at quote_mark s i
+  unfolding read_as quote_mark whether
+  quote_is h r f = f ∙ go (drop i s) refl
+    where
+      go : (x : Text) → drop i s ≡ x → one_at is_quote s i ≡ read_at quote_mark s i
+      go [] e = rw e (ap bad (omega (arith, ap length e, length-drop i s)))
+      go (y ∷ x) e = rw e (turn (is_quote y))
+        where
+          turn : (t : Bool) → cond t (Ok (i + 1)) (bad i) ≡ placed_as {A = ℕ} (λ a n. n) (length s) (elim t as (λ z. Got ℕ) [ true ↦ got y x | false ↦ wrong (y ∷ x) ])
+          turn true = ap good (omega (arith, ap length e, length-drop i s))
+          turn false = ap bad (omega (arith, ap length e, length-drop i s))
 
   pub name_read : (t : Bool) (n : ℕ) → i < length s → n ≤ length s → t ≡ is_name_start (get_or s i 0) → t ≡ true → drop n s ≡ after is_name_byte (drop i s) → Ok n ≡ read_at name s i
   unfolding read_as name
   name_read t n l u e h f =
       let starts : next is_name_start (drop i s) ≡ true = rw (here s i l, sym e, h) in
       ap good (sym (place s n u) ∙ ap (λ (z : Text). length s - length z) f) ∙ ap (placed_as (λ a k. k) (length s)) (sym (run_true _ _ _ _ starts refl))
-
-  pub quote_read : (t : Bool) → i < length s → t ≡ is_quote (get_or s i 0) → t ≡ true → Ok (i + 1) ≡ read_at quote_mark s i
-  unfolding read_as quote_mark whether
-  quote_read t l e h = rw (here s i l, sym e, h) (ap good (omega (arith, length-drop (i + 1) s)))
 
 -- ---- comments
 module _ (s : Text) (i n : ℕ) (dash : Bool) (inv : read_at (remark false) s i ≡ read_at (remark dash) s n) where

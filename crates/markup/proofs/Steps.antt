@@ -12,12 +12,12 @@ use Rattle.std.specs.Result.{is_ok, result_unwrap_or, result_map_both, IsErrAnd}
 use Rattle.std.proofs.lemmas.Result.{err_from_is_err_and}
 use Rattle.text.specs.Texts.{Text, starts_with}
 use Rattle.documents.specs.Chars.{is_white, after}
-use Rattle.documents.specs.Parts.{Got, got, fault, malformed, Reader, ◌>>=◌, ◌>>◌, return, wrong, whether, choose, ends, word, white, many, walk}
+use Rattle.documents.specs.Parts.{Got, got, fault, malformed, Reader, ◌>>=◌, ◌>>◌, return, whether, choose, ends, word, white, many, walk}
 use Rattle.documents.proofs.Steps.{Ok as Accepts, accepted, refused, ok_got, run_then, run_true, run_false}
 use Rattle.documents.proofs.Loops.{Less, again, many_step, walk_step, walk_goes, walk_ends}
 use Rattle.documents.proofs.Leaves.{Leaves}
 use Rattle.markup.specs.declared.answers.Fault.{Fault as Blame}
-use Rattle.markup.specs.Places.{blame, cause_of, placed_as, read_as, read_at}
+use Rattle.markup.specs.Places.{placed_as, read_as, read_at}
 use Rattle.markup.proofs.Places.{place, here, good}
 
 -- ---- an answer is a value or a fault, and one of these

@@ -1,6 +1,6 @@
 -- The laws of what stands round the element.
 use mathlib.Core.Path.{◌≡◌, refl, sym, ap, ◌∙◌}
-use mathlib.Core.Bool.{Bool, true, false, ◌||◌}
+use mathlib.Core.Bool.{Bool, true, false}
 use mathlib.Core.List.{[], ◌∷◌}
 use Prim.Native.Nat.{ℕ, ◌+◌, ◌-◌, ◌≤◌, ◌<◌}
 use native.Mathlib.Omega.{arith}
@@ -8,15 +8,15 @@ use lib.Dec.{ltb}
 use lib.ListN.{length, drop, get_or, length-drop}
 use Rattle.std.proofs.lemmas.Bool.{le-ltb}
 use Rattle.text.specs.Texts.{Text, bytes, starts_with}
-use Rattle.documents.specs.Chars.{is_white, next}
-use Rattle.documents.specs.Parts.{Reader, ◌>>=◌, ◌>>◌, return, whether, blamed, word, comment, order_mark, prolog, is_aside, aside, asides}
-use Rattle.documents.proofs.Leaves.{aside_leaves, asides_leaves, prolog_leaves, order_mark_leaves, aside_less}
+use Rattle.documents.specs.Chars.{is_white}
+use Rattle.documents.specs.Parts.{◌>>=◌, ◌>>◌, return, whether, blamed, word, comment, order_mark, prolog, is_aside, aside, asides}
+use Rattle.documents.proofs.Leaves.{aside_leaves, aside_less}
 use Rattle.std.specs.Prelude.{Result, Ok, Err}
 use Rattle.std.specs.Result.{result_unwrap_or}
 use Rattle.markup.specs.declared.answers.Fault.{Fault as Blame}
 use Rattle.markup.specs.Places.{read_as, read_at, blame_at, declaration}
 use Rattle.markup.proofs.Places.{here, nothing_left, good}
-use Rattle.markup.proofs.Steps.{return_at, then_goes, choose_hit, choose_miss, loop_over, loop_stops, loop_turns, read_less}
+use Rattle.markup.proofs.Steps.{return_at, choose_hit, choose_miss, loop_over, loop_stops, loop_turns, read_less}
 use Rattle.markup.proofs.Loops.{word_goes}
 use Rattle.markup.proofs.Blames.{blamed_there}
 

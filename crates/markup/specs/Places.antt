@@ -2,6 +2,7 @@
 use Rattle.std.specs.Prelude.{◌≡◌, Bool, false, cond, ℕ, ◌+◌, ◌-◌, ◌≤◌, eqb, length, drop, Result, Ok, Err}
 use Rattle.std.specs.Result.{result_map_both}
 use Rattle.text.specs.Texts.{Text, bytes, part}
+use Rattle.documents.specs.Chars.{next}
 use Rattle.documents.specs.Parts.{Fault, malformed, deep, unwanted, bad_name, bad_pattern, role_twice, past_most, Got, got, fault, Reader, ◌>>=◌, ◌>>◌, return, Opened, word, name, remark, white, attributes, tag_end, start_tag}
 use Rattle.markup.specs.declared.answers.Cause.{Cause}
 use Rattle.markup.specs.declared.answers.Cause.TheVariants.{Malformed, Deep, Unwanted, BadName, BadPattern, RoleTwice, PastMost}
@@ -59,6 +60,10 @@ read_as f m s i = placed_as f (length s) (m (drop i s))
 -- its place alone
 abbrev pub read_at : {A : Type 0} → Reader A → Text → ℕ → Result ℕ Blame
 read_at m s i = read_as (λ a n. n) m s i
+
+-- the place behind the byte there, if it is of the kind p
+abbrev pub one_at : (ℕ → Bool) → Text → ℕ → Result ℕ Blame
+one_at p s i = cond (next p (drop i s)) (Ok (i + 1)) (Err (blame Malformed i))
 
 -- the value that m reads there, or d beside a fault
 unfoldable pub read_or : {A : Type 0} → A → Reader A → Text → ℕ → A

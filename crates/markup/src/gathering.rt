@@ -72,6 +72,7 @@ pub fn gather(s: &[u8], at: usize, here: usize, out: &mut [u8]) -> Result<Gather
 {
     let mut n = at;
     let mut k = Kept { kept: 0, size: 0 };
+    // Kept: a byte that stands for itself is kept here, and not by `take_one`, by which a byte of text takes 41 instructions and not 18.
     while words::goes_on(s, n) {
         let b = s[n];
         if chars::is_plain(b) {

@@ -3,7 +3,7 @@ ghost use Rattle.std.specs.Prelude.{◌≡◌, [], ◌∷◌, ◌≤◌, ◌<◌
 ghost use Rattle.text.specs.Texts.{bytes, starts_with};
 ghost use Rattle.documents.specs.Chars.{is_white, is_plain, is_name_byte, next, after};
 ghost use Rattle.documents.specs.Parts.{word, name, ends, goes_on};
-ghost use Rattle.markup.specs.Places.{Within, place_of, read_at};
+ghost use Rattle.markup.specs.Places.{Within, place_of, read_at, one_at};
 
 use crate::answers::Fault;
 use crate::chars;
@@ -54,16 +54,26 @@ pub fn word(s: &[u8], at: usize, w: &[u8]) -> Result<usize, Fault>
     Ok(n)
 }
 
+// The byte at `at`, if it is of a kind.
+pub fn one<F: Fn(u8) -> bool>(s: &[u8], at: usize, kind: F) -> Result<usize, Fault>
+    requires place { at ≤ length s.now }
+    requires callable { F.IsAlwaysCallable kind }
+    ensures within { Within s.now at (place_of result) }
+    ensures exact { (p : ℕ → Bool) → ((b : ℕ) (r : Bool) → b < 256 → F.post kind b r → r ≡ p b) → result ≡ one_at p s.now at }
+{
+    if at < s.len() && kind(s[at]) {
+        return Ok(at + 1);
+    }
+    Err(Fault::malformed(at))
+}
+
 // The byte b at `at`.
 pub fn byte(s: &[u8], at: usize, b: u8) -> Result<usize, Fault>
     requires { at ≤ length s.now }
     ensures within { Within s.now at (place_of result) }
     ensures exact { result ≡ read_at (word (b ∷ [])) s.now at }
 {
-    if at < s.len() && s[at] == b {
-        return Ok(at + 1);
-    }
-    Err(Fault::malformed(at))
+    one(s, at, |x| x == b)
 }
 
 // The place behind the bytes of a name at `at`.
