@@ -5,7 +5,7 @@ ghost use Rattle.text.specs.Texts.{Text, bytes, same};
 ghost use Rattle.names.specs.Patterns.{exact, prefix, kind_of};
 ghost use Rattle.reading.specs.Views.{texts, ProperView};
 ghost use Rattle.decisions.specs.Matching.{is_under};
-ghost use Rattle.matching.specs.Strengths.{Ends, lead_by};
+ghost use Rattle.matching.specs.Strengths.{Ends};
 ghost use Rattle.grants.specs.Scratch.{stem_strength, leading_by, best_number};
 ghost use Rattle.numbers.specs.Stemming.{line_among, is_firm_text, Findable, Lacking};
 
@@ -84,22 +84,6 @@ pub fn exact_strength(u: &[u8], path: &[u8], x: Option<usize>) -> u32
     matching::starred_strength(u, path, x)
 }
 
-// The choice with one text more, of strength v.
-pub fn lead_by(x: Leading, v: u32) -> Leading
-    requires { x.seen < 1000 }
-    ensures { result ≡ lead_by x v }
-{
-    let seen = x.seen + 1;
-    if x.most < v {
-        return Leading {
-            seen,
-            at: x.seen,
-            most: v,
-        };
-    }
-    Leading { seen, ..x }
-}
-
 // The strongest of a view by some strength.
 pub fn strongest_by<F: Fn(&[u8]) -> u32>(view: &View, strength: F) -> Leading
     requires { (u : _) (k : ℕ) → k < length (texts view.now) → u.now ≡ get_or (texts view.now) k [] → F.pre strength u }
@@ -112,7 +96,7 @@ pub fn strongest_by<F: Fn(&[u8]) -> u32>(view: &View, strength: F) -> Leading
         most: 0,
     };
     for k in 0..view.pattern_count() {
-        x = lead_by(x, strength(view.pattern(k)));
+        x = x.with(strength(view.pattern(k)));
     }
     x
 }

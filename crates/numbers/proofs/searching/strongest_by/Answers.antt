@@ -10,6 +10,6 @@ loop-k-preserved g c =
     let so_far = c.loop-k.invariant in (
       λ f tells.
           by_step f _ _ _ (so_far.0 f tells) _ _ _ _ c.pattern_count-k-end.ensures.count c.loop-k-test.true c.pattern.ensures
-          (tells _ _ _ (search rules) c.pattern.ensures c.strength.ensures) c.lead_by-x.ensures,
-      by_count c.loop-k.x c.strength.result _ _ so_far.1 c.lead_by-x.ensures,
+          (tells _ _ _ (search rules) c.pattern.ensures c.strength.ensures) c.with-x.ensures,
+      by_count c.loop-k.x c.strength.result _ _ so_far.1 c.with-x.ensures,
     )
