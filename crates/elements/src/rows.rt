@@ -107,6 +107,7 @@ pub fn text_sort(n: &[u8]) -> Sort
     other_sort(n)
 }
 
+// Kept: the three ladders of names stay three, as `portals` defines them (`sort_of`, `text_sort`, `refused_or`); a `match` on the bytes tests them one by one, and leaves forty goals and more open for two names.
 // The sort of an element by its name.
 #[tactic(auto, using(text::proofs::Truths::ladder), unfolding(portals::specs::Elements::sort_of))]
 pub fn sort_of(n: &[u8]) -> Sort

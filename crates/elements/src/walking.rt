@@ -109,6 +109,7 @@ pub fn content(
     requires { Ready s.now at here w.old }
     ensures { Comes s.now (content_at left (length s.now - here) (reached_at s.now phase w.old)) at result w.new }
 {
+    // Kept: no `for` goes here, since a turn begins where the node before it ended, and ends the function where that is at fault.
     let mut n = pass(s, at, phase);
     let mut p = phase;
     while !words::is_end(s, n) {

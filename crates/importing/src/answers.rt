@@ -18,6 +18,7 @@ pub struct Import {
     pub length: usize,
 }
 
+// Kept: `refuse` and `tell` have the side and line, or the length, at 0; one function of four numbers would be called with noughts.
 // A refusal, whose length is 0.
 pub fn refuse(number: u32, side: u32, line: u32) -> Import
     ensures { handed_by result ≡ handed number side line 0 }
