@@ -84,18 +84,6 @@ module _ (old new : View) where
     pub last_is : last ≡ last_stem ol nl
 
   module _ (n : ℕ) (last : Stem) where
-    -- none yet
-    pub stems_start : (w : List ℕ) → StemsLent old new n last w → StemmingTo n last 0 w w
-    stems_start w L = record {
-      laid = L.laid;
-      written = record { kept = kept_all 1152 2048 w; stems = λ j h. absurd (omega arith); behind = refl };
-      firsts = λ i h l. L.firsts i l;
-      so_far = omega arith;
-      few = omega (arith, texts_few old new w L.laid, L.all);
-      all = L.all;
-      last_is = L.last_is;
-    }
-
     module _ (j : ℕ) (w₀ w : List ℕ) (S : StemmingTo n last j w₀ w) where
       -- the next line
       pub stems_next : j < n → Stemmable old new (part 1666 1923 w) last j

@@ -1,9 +1,6 @@
 use borrow.Author.Rules.{rules}
-use Rattle.numbers.proofs.StemsPut.{stems_start, stems_next, stems_more}
+use Rattle.numbers.proofs.StemsPut.{stems_next, stems_more}
 use Rattle.numbers.proofs.stems.fill_stems.Goals as goal
-
-pub loop-j-init : goal.loop-j-init
-loop-j-init c = search (rules, stems_start)
 
 pub stem_at-x-requires : goal.stem_at-x-requires
 stem_at-x-requires c = search (rules, stems_next)
