@@ -14,6 +14,7 @@ fn read_whole<R: Read>(file: &mut R, buf: &mut [u8]) -> usize
     ensures bytes { 0 < result → IfSome (R.remaining file.old) (λ left. take result buf.new ≡ take (length buf.new) left) }
 {
     let mut done = 0;
+    // Kept: a turn takes as many bytes as the read gave; no `for` counts them.
     while done < buf.len() {
         match file.read(&mut buf[done..]) {
             Ok(0) => return done,

@@ -27,6 +27,7 @@ pub fn strongest(view: &View, path: &[u8]) -> Leading
 }
 
 // What the constraints taken so far come to: whether there is one, one that closes, one that frees, and the roles that they allow.
+// Kept: three facts that are joined each by itself (`join_with`, `joined_answer`); none says whether another counts.
 #[derive(Clone, Copy)]
 pub struct Joined {
     pub any: bool,

@@ -32,6 +32,7 @@ pub fn read_and_close<R: Read + Drop>(mut file: R, buf: &mut [u8]) -> usize
     ensures { result ≤ length buf.new }
 {
     let mut done = 0;
+    // Kept: a turn takes as many bytes as the read gave; no `for` counts them.
     while done < buf.len() {
         let n = file.read(&mut buf[done..]).unwrap_or(0);
         if n == 0 {

@@ -64,6 +64,7 @@ pub fn asides(s: &[u8], at: usize) -> Result<usize, Fault>
     ensures exact { result ≡ read_at asides s.now at }
 {
     let mut n = at;
+    // Kept: a turn goes on behind what it read. One function over this loop and that of `attributes::all_of` would take the test and the reader as closures, and a clause for each and for its ending.
     while is_aside(s, n) {
         n = aside(s, n)?;
     }

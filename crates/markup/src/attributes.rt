@@ -78,6 +78,7 @@ pub fn all_of(s: &[u8], at: usize) -> Result<usize, Fault>
     ensures exact { result ≡ read_at attributes s.now at }
 {
     let mut n = at;
+    // Kept: a turn goes on behind what it read; `around::asides` says why the two loops are not one function.
     while is_attribute(s, n) {
         n = attribute(s, n)?;
     }

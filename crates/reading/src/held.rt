@@ -101,6 +101,7 @@ impl<'a> View<'a> {
     }
 
     // The index of a name among the roles, or their number where it is none of them.
+    // Kept: no Option, since the definitions `with_role` and `Mapped` above are stated with `index_of`, which gives that number.
     pub fn role_index(&self, name: &[u8]) -> usize
         ensures index { result ≡ index_of name.now self.now.roles }
         ensures proper { ProperView self.now }
@@ -127,6 +128,7 @@ impl<'a> View<'a> {
     }
 
     // The index of a method among them, or their number where it is none of them.
+    // Kept: no Option: that number is the digit of all methods that nothing names, in a cover and in `is_line_for`.
     pub fn method_index(&self, name: &[u8]) -> usize
         ensures index { result ≡ index_of name.now self.now.methods }
         ensures proper { ProperView self.now }
