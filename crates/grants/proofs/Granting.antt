@@ -14,7 +14,7 @@ use Rattle.deciding.specs.Joinings.{nothing_joined, join_with}
 use Rattle.deciding.specs.declared.joining.Joined.{Joined}
 use Rattle.grants.specs.Sides.{everyone, access_from, access_in, joined_along, grantees_of, grants_in, listed, roster_in}
 use Rattle.grants.specs.Codes.{code_of, joined_in, none, code_for, joined_with, grantees_at, Along}
-use Rattle.grants.proofs.Stores.{Filled, fill_start, filled_listed, Mixing, mix_start, mix_more, listed_length, listed_at, listed_same}
+use Rattle.grants.proofs.Stores.{Mixing, mix_start, mix_more, listed_length, listed_at, listed_same}
 
 -- ---- along the lines with one text
 -- the next of them

@@ -27,10 +27,6 @@ module _ (z n : ℕ) (f : ℕ → ℕ) (out : List ℕ) where
       go j l (yes q) = get_or-set_other out k j v 0 (λ i. omega arith) ∙ F.below j q
       go j l (no q) = let i : j ≡ k = omega arith in rw i (get_or-set_same out k v 0 (omega (arith, F.size, F.fits)) ∙ e)
 
-  -- all
-  pub fill_all : (k m : ℕ) → Filled z n k f out → n ≤ k → n ≡ m → (length out ≡ z) × ((j : ℕ) → j < m → get_or out j 0 ≡ f j)
-  fill_all k m F h e = (F.size, λ j l. F.below j (omega arith))
-
 -- ---- a table that is changed where it stands: the first m numbers are done, the others as they were
 pub record Mixing (z : ℕ) (f : ℕ → ℕ) (before : List ℕ) (m : ℕ) (out : List ℕ) : Type 0 where
   pub done : Filled z z m f out

@@ -13,7 +13,7 @@ use lib.Bits.{bit_and, bit_or}
 use borrow.Author.Tests.{eq-eqb}
 use Rattle.text.proofs.Truths.{never}
 use Rattle.grants.specs.Sides.{everyone, grants_in, listed, roster_in}
-use Rattle.grants.specs.Scratch.{sort_at, line_in, Walkable}
+use Rattle.grants.specs.Scratch.{sort_at, Walkable}
 use Rattle.grants.specs.declared.scratch.Counts.{Counts}
 use Rattle.grants.proofs.Stores.{Mixing, mix_start, mix_more, mixed_listed, listed_length, listed_at}
 use Rattle.walks.specs.Gathers.{table_on, count_on, best_on, roster_on, joined_at, joined_by, gathered, Within, InOld, HasNew}

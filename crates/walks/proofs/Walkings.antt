@@ -45,10 +45,6 @@ pub record Going (x : List ℕ) (c : Counts) (j i : ℕ) : Type 0 where
   pub due : behind x c j ≡ behind_from x c j ((c.old + c.new) - i) i
 
 module _ (x : List ℕ) (c : Counts) (j : ℕ) where
-  -- all of them
-  pub going_start : Going x c j 0
-  going_start = record { within = omega arith; due = ap (λ (k : ℕ). behind_from x c j k 0) (omega arith) }
-
   module _ (i : ℕ) (G : Going x c j i) where
     -- one stem more
     going_step : (b : Bool) → i < c.old + c.new → b ≡ eqb (sort_at x i) 3
@@ -191,11 +187,3 @@ module _ (x : List ℕ) (c : Counts) (ro rn : List ℕ) where
     ahead_end count all h =
         let k : (c.old + c.new + 1) - j ≡ 0 = omega arith in
         sym (A.due ∙ ap (λ (k : ℕ). walk_from x c k j) k)
-
--- the rosters of stem j
-pub at_stem : (x : List ℕ) (c : Counts) (j : ℕ) (ro rn : List ℕ) → j ≤ 256 → ro ≡ old_roster x c (best_in_old x j) → rn ≡ new_roster x c (best_in_new x j) → AtStem x c j ro rn
-at_stem x c j ro rn l p q = record { within = l; old_roster_lem = p; new_roster_lem = q }
-
--- its sort is another
-pub of_other_sort : (x : List ℕ) (j : ℕ) (b : Bool) → b ≡ eqb (sort_at x j) 0 → b ≡ false → eqb (sort_at x j) 0 ≡ false
-of_other_sort x j b p q = sym p ∙ q
