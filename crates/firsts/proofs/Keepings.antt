@@ -1,11 +1,14 @@
 -- What a call keeps of the work table.
-use mathlib.Core.Path.{◌≡◌, refl, sym, ◌∙◌}
+use mathlib.Core.Path.{◌≡◌, refl, sym, ap, subst, ◌∙◌}
 use mathlib.Core.List.{List}
 use Prim.Native.Nat.{ℕ, ◌+◌, ◌-◌, ◌≤◌, ◌<◌}
 use native.Mathlib.Omega.{arith}
 use lib.ListN.{length, get_or, set, drop, length-set, length-drop}
 use lib.Seq.{get_or-set_other, ext_get_or, get_or-take, length-take-le, get_or-drop}
-use Rattle.text.specs.Texts.{part}
+use Rattle.text.specs.Texts.{Text, part}
+use Rattle.entries.specs.declared.tables.Tally.{Tally}
+use Rattle.reading.specs.Holds.{Holds}
+use Rattle.reading.specs.Views.{view_at}
 use Rattle.firsts.specs.Keeping.{Kept}
 
 pub kept_all : (a e : ℕ) (w : List ℕ) → Kept a e w w
@@ -48,3 +51,18 @@ part_behind a e w₀ w K b f h l m =
     let p : length (part b f w) ≡ f - b = part_length b f w l (omega (arith, K.size)) in
     ext_get_or 0 (part b f w) (part b f w₀) (p ∙ sym (part_length b f w₀ l m)) (λ i q.
     part_at b f i w (omega arith) ∙ K.behind (b + i) (omega arith) ∙ sym (part_at b f i w₀ (omega arith)))
+
+-- ---- a listing's table before what is written
+-- it holds what it held
+pub held_still : (s : Text) (t : Tally) (b f a e : ℕ) (w₀ w : List ℕ) → Holds s t (part b f w₀) → Kept a e w₀ w → f ≤ a → b ≤ f → f ≤ length w₀ → Holds s t (part b f w)
+held_still s t b f a e w₀ w H K h l m = subst (λ (u : List ℕ). Holds s t u) (sym (part_kept a e w₀ w K b f h l m)) H
+
+-- and its view is what it was: wherever it stands, in the first 1,024 numbers, in the next
+pub view_still : (s : Text) (t : Tally) (b f a e : ℕ) (w₀ w : List ℕ) → Kept a e w₀ w → f ≤ a → b ≤ f → f ≤ length w₀ → view_at s t (part b f w) ≡ view_at s t (part b f w₀)
+view_still s t b f a e w₀ w K h l m = ap (view_at s t) (part_kept a e w₀ w K b f h l m)
+
+pub olds_still : (old : Text) (t : Tally) (a e : ℕ) (w₀ w : List ℕ) → Kept a e w₀ w → 2048 ≤ a → 2048 ≤ length w₀ → view_at old t (part 0 1024 w) ≡ view_at old t (part 0 1024 w₀)
+olds_still old t a e w₀ w K h m = view_still old t 0 1024 a e w₀ w K (omega arith) (omega arith) (omega arith)
+
+pub news_still : (new : Text) (t : Tally) (a e : ℕ) (w₀ w : List ℕ) → Kept a e w₀ w → 2048 ≤ a → 2048 ≤ length w₀ → view_at new t (part 1024 2048 w) ≡ view_at new t (part 1024 2048 w₀)
+news_still new t a e w₀ w K h m = view_still new t 1024 2048 a e w₀ w K (omega arith) (omega arith) (omega arith)

@@ -1,5 +1,5 @@
 -- Conjunctions and alternatives of tests, taken one test at a time.
-use mathlib.Core.Path.{◌≡◌, refl, sym, ◌∙◌}
+use mathlib.Core.Path.{◌≡◌, refl, sym, ap, ◌∙◌}
 use mathlib.Core.Bool.{Bool, true, false, not, ◌&&◌, ◌||◌}
 use mathlib.Core.List.{[], ◌∷◌}
 use Prim.Native.Nat.{ℕ, ◌≤◌, ◌<◌}
@@ -7,7 +7,10 @@ use native.Mathlib.Omega.{arith}
 use lib.ListN.{length}
 use lib.Dec.{leb}
 use borrow.Author.Tests.{le-leb, lt-leb, not-true, not-false}
-use Rattle.text.specs.Texts.{Text, same}
+use Rattle.text.specs.Texts.{Text, bytes, semicolon, same, has, all, ends_with}
+use Rattle.text.specs.Bytes.{is_text}
+use Rattle.names.specs.Names.{is_pattern}
+use Rattle.names.specs.Patterns.{kind_of, is_permitted}
 use Rattle.text.proofs.Spans.{same_lengths}
 
 -- `search (rules, tests)` goes along them
@@ -90,3 +93,16 @@ pub ruleset tests = (
   empty_same,
   filled_differs,
 )
+
+-- a pattern's tests, the length's to the last space's passed: what is left is that it has no `;`, and its kind
+module _ (t : Text) (clean spaced found : Bool) (h : length t ≤ 255) (is : clean ≡ all is_text t) (c : not clean ≡ false)
+    (last : spaced ≡ ends_with (bytes " ") t) (s : spaced ≡ false) (found_is : found ≡ has semicolon t) where
+  left_of_pattern : (not found && is_permitted (kind_of t)) ≡ is_pattern t
+  unfolding is_pattern
+  left_of_pattern = sym (rw (le-leb 0 (length t) (omega arith), le-leb (length t) 255 h, ← is, not-false clean c, ← last, s, ← found_is))
+
+  pub semicolon_fails : found ≡ true → false ≡ is_pattern t
+  semicolon_fails e = ap (λ (b : Bool). not b && is_permitted (kind_of t)) (sym e) ∙ left_of_pattern
+
+  pub without_goes_on : (z : Bool) → found ≡ false → z ≡ is_permitted (kind_of t) → z ≡ is_pattern t
+  without_goes_on z e f = f ∙ ap (λ (b : Bool). not b && is_permitted (kind_of t)) (sym e) ∙ left_of_pattern

@@ -1,5 +1,6 @@
 -- The laws of texts that become numbers:
 --   Writings        what is written, and what is kept
+--   Stills          a table that holds a view and is written behind it: for a caller that keeps both in one slice
 --   SideLines       sides: the table of a side
 --   Pairings        methods: the trial methods by their numbers
 --   PairsPut        the same in the work table
@@ -9,6 +10,7 @@
 --   StemsPut        the same in the work table
 --   Numberings      numbering: the parts of the scratch put together
 pub mod Writings
+pub mod Stills
 pub mod SideLines
 pub mod Pairings
 pub mod PairsPut
