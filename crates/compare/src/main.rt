@@ -11,6 +11,7 @@ mod files; // a file's bytes
 mod printing; // the text that is printed
 
 fn main(rt: HostRuntime) -> io::Result<()> {
+    // Kept: fixed memory, no heap: one byte more than a listing may have, so that a longer file shows.
     let mut old = [0u8; BYTES + 1];
     let mut new = [0u8; BYTES + 1];
     let mut text = [0u8; ANSWER];

@@ -20,6 +20,7 @@ fn try_request(
     login: u32,
     roles: &[u8],
 ) -> io::Result<()> {
+    // Kept: fixed memory, no heap.
     let mut w = [0u32; 5000];
     work::fill(&mut w);
     let d = decider::budquarry_decide(listing, path, method, login, roles, &mut w);
@@ -51,6 +52,7 @@ fn try_stored(rt: &impl Print, name: &str, s: &[u8]) -> io::Result<()> {
 // The case k. Answers whether its file could be opened: where not, nothing is written.
 // A stored request has at most 12 + 24,577 + 2,000 + 100 + 4,000 bytes.
 fn try_case(rt: &(impl Files + Print), k: usize) -> io::Result<bool> {
+    // Kept: fixed memory, no heap.
     let mut buf = [0u8; 30689];
     let name = cases::case_name(k);
     let name = str::from_utf8(&name).unwrap();

@@ -91,6 +91,7 @@ pub fn text_in(s: &[u8], at: usize, t: Start, leaf: Leaf, w: &mut [u32]) -> Resu
     requires { Entered s.now at t w.old × (is_text_kind (number_of leaf.item) ≡ true) × (t.full ≡ true) }
     ensures { Comes s.now (saying_at (length s.now - at) (opened_by s.now at t) (phase_at leaf.next) (kind_by (number_of leaf.item)) (ledger_at s.now w.old)) t.next result w.new }
 {
+    // Kept: fixed memory, no heap: a text has 255 bytes at most, and stands in the first `len` of these.
     let mut letters = [0u8; 256];
     let g = tell(s, at, t, &mut letters)?;
     if 255 < g.len {

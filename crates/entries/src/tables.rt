@@ -281,6 +281,7 @@ impl Tally {
         }
     }
 
+    // Kept: what a line adds, a function each: `tally_collection`, `tally_pattern`, `tally_line` and `tally_method` say which fields count up.
     // A collection more.
     pub fn with_collection(self) -> Tally
         requires { self.collections < 1000 }

@@ -60,6 +60,7 @@ pub fn put_text(s: &[u8], p: usize, out: &mut [u8], at: usize) -> usize
     if s.len() < p {
         return at;
     }
+    // Kept: fixed memory, no heap: a text has 255 bytes at most, and stands in the first `len` of these.
     let mut letters = [0u8; 256];
     let Ok(g) = gathering::gather(s, p, p, &mut letters) else {
         return at;

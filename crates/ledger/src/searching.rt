@@ -25,6 +25,7 @@ pub fn is_text_at(s: &[u8], at: usize, t: &[u8]) -> bool
     if s.len() < at {
         return false;
     }
+    // Kept: fixed memory, no heap: a text has 255 bytes at most, and stands in the first `len` of these.
     let mut found = [0u8; 256];
     let Ok(g) = gathering::gather(s, at, at, &mut found) else {
         return false;

@@ -54,31 +54,43 @@ pub fn head(t: &[u8]) -> Option<Headed>
     ensures is { result ≡ head_of t.now }
     ensures small { IfSome result (λ h. h.size < 100) }
 {
-    if texts::starts_with(b"method\t", t) {
-        return of_kind(Kind::Method, 7);
+    match t {
+        [b'm', b'e', b't', b'h', b'o', b'd', b'\t', ..] => of_kind(Kind::Method, 7),
+        [b'o', b'm', b'i', b't', b'\t', ..] => of_kind(Kind::Omit, 5),
+        [b'p', b'a', b't', b't', b'e', b'r', b'n', b'\t', ..] => of_kind(Kind::Pattern, 8),
+        [b'a', b'l', b'l', b'o', b'w', b'\t', ..] => of_kind(Kind::Allow, 6),
+        [b'r', b'o', b'l', b'e', b'\t', ..] => of_kind(Kind::Role, 5),
+        [
+            b'c',
+            b'o',
+            b'n',
+            b's',
+            b't',
+            b'r',
+            b'a',
+            b'i',
+            b'n',
+            b't',
+            b'\t',
+            ..
+        ] => of_kind(Kind::Constraint, 11),
+        [
+            b'c',
+            b'o',
+            b'l',
+            b'l',
+            b'e',
+            b'c',
+            b't',
+            b'i',
+            b'o',
+            b'n',
+            b'\n',
+            ..
+        ] => of_kind(Kind::Collection, 10),
+        [b'e', b'n', b'd', b'\n', ..] => of_kind(Kind::End, 3),
+        _ => None,
     }
-    if texts::starts_with(b"omit\t", t) {
-        return of_kind(Kind::Omit, 5);
-    }
-    if texts::starts_with(b"pattern\t", t) {
-        return of_kind(Kind::Pattern, 8);
-    }
-    if texts::starts_with(b"allow\t", t) {
-        return of_kind(Kind::Allow, 6);
-    }
-    if texts::starts_with(b"role\t", t) {
-        return of_kind(Kind::Role, 5);
-    }
-    if texts::starts_with(b"constraint\t", t) {
-        return of_kind(Kind::Constraint, 11);
-    }
-    if texts::starts_with(b"collection\n", t) {
-        return of_kind(Kind::Collection, 10);
-    }
-    if texts::starts_with(b"end\n", t) {
-        return of_kind(Kind::End, 3);
-    }
-    None
 }
 
 // Whether a record of kind k may stand at stage p.

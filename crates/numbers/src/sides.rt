@@ -151,6 +151,7 @@ pub fn fill_side<'a>(new: &View<'a>, view: &View<'a>, firsts: &[u32], w: &mut [u
     requires { GapsLent view.now firsts.now at 512 w.old }
     ensures { SideWritten new.now.roles view.now at w.old w.new }
 {
+    // Kept: fixed memory, no heap: a number for each of 32 roles, as many as there can be.
     let mut map = [0; 32];
     let n = fill_map(new, view, &mut map);
     fill_plain(view, firsts, w, at);

@@ -38,6 +38,7 @@ fn try_file(
 ) -> io::Result<bool>
     requires { (lent ≤ 5000) × (zero ≤ 5000) }
 {
+    // Kept: fixed memory, no heap.
     let mut buf = [0u8; 24577];
     let mut w = [0u32; 5000];
     let Ok(file) = File::open(rt, path) else {

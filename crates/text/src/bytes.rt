@@ -2,6 +2,7 @@
 ghost use Rattle.std.specs.Prelude.{◌≡◌};
 ghost use Rattle.text.specs.Bytes.{is_text, is_token, class_of};
 
+// Kept: bits of a number, and no enum: `class_of` of text/specs/Bytes is that number, which one look into the table answers.
 // 1 for text, 2 more for token.
 const CLASS: &[u8; 256] = b"\
     \x00\x00\x00\x00\x00\x00\x00\x00\x00\x00\x00\x00\x00\x00\x00\x00\

@@ -46,6 +46,7 @@ pub fn best(x: &[u32], side: Side, j: usize) -> usize
     }
 }
 
+// Kept: a sort is a number, since it stands so in the scratch, whose memory is fixed, and `sort_at` of grants' definitions says which.
 // Whether it is of a sort.
 pub fn is_of_sort(x: &[u32], j: usize, sort: u32) -> bool
     requires { (length x.now ≡ 2048) × (j ≤ 256) }
