@@ -34,7 +34,7 @@ pub fn logged_in(view: &View, names: &[u8]) -> Option<Who>
     let mut set = 0;
     let mut count: usize = 0;
     let mut at = 0;
-    // Kept: a turn goes on behind the name that it read, however long that is; a `for` would need an iterator type that holds this very loop.
+    // Kept: `scan` finds a name's end and looks at its bytes at once; `split_inclusive` would go over them twice.
     while at < names.len() {
         let name = texts::scan(names, at);
         if !lines::ends_at(names, name.end) {

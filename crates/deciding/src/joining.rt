@@ -27,7 +27,7 @@ pub fn strongest(view: &View, path: &[u8]) -> Leading
 }
 
 // What the constraints taken so far come to: whether there is one, one that closes, one that frees, and the roles that they allow.
-// Kept: three facts that are joined each by itself (`join_with`, `joined_answer`); none says whether another counts.
+// Kept: `join_with`, `joined_up_to` and `joined_answer` of deciding/specs are stated with these three facts and the roles.
 #[derive(Clone, Copy)]
 pub struct Joined {
     pub any: bool,

@@ -281,7 +281,7 @@ impl Tally {
         }
     }
 
-    // Kept: what a line adds, a function each: `tally_collection`, `tally_pattern`, `tally_line` and `tally_method` say which fields count up.
+    // Kept: these functions count up other fields each; one for all of them would take a number for each field, and say less at its calls.
     // A collection more.
     pub fn with_collection(self) -> Tally
         requires { self.collections < 1000 }

@@ -43,7 +43,7 @@ pub fn judge_lines(
     requires { (((length so.now ≡ 512) × (o ≤ 128)) × ((length sn.now ≡ 512) × (n ≤ 128))) × (((length pairs.now ≡ 128) × (count ≤ 63)) × PairsFit pairs.now count) }
     ensures { result ≡ caught_in so.now o sn.now n pairs.now count u v }
 {
-    // Kept: fixed memory, no heap: a set for each of 32 methods, as many as there can be.
+    // Kept: fixed memory, no heap: a set for each of 31 methods, as many as there can be, and one for all others.
     let mut ro = [0; 32];
     let mut rn = [0; 32];
     rosters::fill_roster(so, o, u, &mut ro);

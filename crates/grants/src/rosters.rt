@@ -52,7 +52,7 @@ pub fn join_along(side: &[u32], n: usize, first: usize, roster: &mut [u64])
     ensures { Along side.now n first roster.new }
 {
     let mut k = first;
-    // Kept: the table tells how far the next line with the text is, so the index leaps, and no iterator of the library goes so.
+    // Kept: the table tells how far the next line with the text is, so the index leaps; `iter::successors` would do the same by a closure with a clause of its own, and be no plainer.
     while k < n {
         let next = k + 1 + side[384 + k] as usize;
         join_line(side[k], code_of(side, k), roster);

@@ -29,7 +29,7 @@ pub fn fill_covers(view: &View, w: &mut [u32], at: usize)
 }
 
 // 0 open, 1 closed, 2 by role.
-// Kept: no `From`, since neither `Access` nor `u32` is of this crate; the scratch holds numbers, and `access_number` of grants' definitions says which.
+// Kept: no `From`, which would have to stand in reading, where nothing knows of the scratch; `access_number` of grants' definitions says the numbers.
 pub fn access_number(a: Access) -> u32
     ensures { result ≡ access_number a }
 {

@@ -13,7 +13,7 @@ use reading::held::View;
 use text::texts;
 
 // What is written of a stem.
-// Kept: numbers, and no enum, Option or bool: they stand so in the scratch, whose memory is fixed, and `sort_of` and `best_number` of grants' definitions say which.
+// Kept: numbers, and no enum, Option or bool: as they stand in the scratch, whose memory is fixed; `sort_of` and `best_number` of grants' definitions say which.
 #[derive(Clone, Copy)]
 pub struct Stem {
     pub sort: u32,

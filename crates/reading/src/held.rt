@@ -101,7 +101,7 @@ impl<'a> View<'a> {
     }
 
     // The index of a name among the roles, or their number where it is none of them.
-    // Kept: no Option, since the definitions `with_role` and `Mapped` above are stated with `index_of`, which gives that number.
+    // Kept: no Option, since the clause `index` promises that number, as `with_role` and `Mapped` above are stated with it.
     pub fn role_index(&self, name: &[u8]) -> usize
         ensures index { result ≡ index_of name.now self.now.roles }
         ensures proper { ProperView self.now }

@@ -99,7 +99,7 @@ pub fn fill_lines(s: &[u8], w: &mut [u32], at: usize) -> Result<Tally, Refusal>
 {
     let mut t = Tally::start();
     let mut c = Cursor { at, line: 2 };
-    // Kept: (d) a line's length is known only when it is read, so a `for` would need an iterator type that holds this very loop.
+    // Kept: `line` finds a line's end and looks at its bytes at once; `split_inclusive` would go over them twice.
     while c.at < s.len() {
         match line(s, w, t, c) {
             Err(fault) => return Err(c.refusal(fault)),

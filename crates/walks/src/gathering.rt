@@ -32,7 +32,7 @@ pub fn gather<F: Fn(u64, u64) -> u64 + Copy>(
     ensures { (op : ℕ → ℕ → ℕ) → Computes (F.post join) op → all.new ≡ gathered op x.now c side (c.old + c.new) all.old }
 {
     let count = c.old + c.new;
-    // Kept: fixed memory, no heap: a set for each of 32 methods, as many as there can be.
+    // Kept: fixed memory, no heap: a set for each of 31 methods, as many as there can be, and one for all others.
     let mut roster = [rosters::EVERYONE; 32];
     let mut had = 0;
     for i in 0..count {

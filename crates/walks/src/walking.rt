@@ -103,7 +103,7 @@ pub fn walk_with<'a>(x: &[u32], c: Counts, each: &'a [u64], any: &'a [u64]) -> O
     ensures { result ≡ walked x.now c }
 {
     let count = c.old + c.new + 1;
-    // Kept: fixed memory, no heap: a set for each of 32 methods, as many as there can be.
+    // Kept: fixed memory, no heap: a set for each of 31 methods, as many as there can be, and one for all others.
     let mut ro = [rosters::EVERYONE; 32];
     let mut rn = [rosters::EVERYONE; 32];
     let mut lo = 0;
@@ -126,7 +126,7 @@ pub fn walk(x: &[u32], c: Counts) -> Option<Hit>
     requires { Walkable x.now c }
     ensures { result ≡ walked x.now c }
 {
-    // Kept: fixed memory, no heap: a set for each of 32 methods, as many as there can be.
+    // Kept: fixed memory, no heap: a set for each of 31 methods, as many as there can be, and one for all others.
     let mut each = [rosters::EVERYONE; 32];
     let mut any = [0; 32];
     gathering::gather_old(x, c, &mut each);
