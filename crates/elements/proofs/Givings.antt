@@ -150,9 +150,6 @@ module _ (s : Text) (p : ℕ) (t : Start) where
     pub tagged_begun : p ≤ t.next
     tagged_begun = omega (arith, h.opening.low, h.opening.high)
 
-    pub tagged_named : t.end ≤ length s
-    tagged_named = omega (arith, h.opening.high, h.within)
-
   module _ (full : t.full ≡ true) where
     pub tell_stops : (e : Blame) → Err e ≡ read_as gathered (letters (length s - p)) s t.next → Err e ≡ read_on (telling (length s - p) (opened_by s p t)) s t.next
     unfolding telling

@@ -86,20 +86,20 @@ module _ (s : Text) (i n : ℕ) (q : Phase) (x : Ledger) (t : Bool) (e : t ≡ i
   ends_missing z l d y =
       rw y (on_false _ (return (reached (phase_at q) x)) (fault_at malformed (length s - i)) s n _ (sym e ∙ z) (fault_on _ s n malformed i (length s - i) (omega arith) refl))
 
-module _ (s : Text) (i a e : ℕ) (q : Phase) (x : Ledger) where
+module _ (s : Text) (i : ℕ) (m : Text) (q : Phase) (x : Ledger) where
   abbrev closes_to : Result ℕ Blame → Type 0
-  closes_to r = shown_by r (reached (phase_at q) x) ≡ read_on (closing (part a e s) (reached (phase_at q) x)) s i
+  closes_to r = shown_by r (reached (phase_at q) x) ≡ read_on (closing m (reached (phase_at q) x)) s i
 
-  pub close_stops : (d : Blame) → Err d ≡ read_at (second_tag (part a e s)) s i → closes_to (Err d)
+  pub close_stops : (d : Blame) → Err d ≡ read_at (second_tag m) s i → closes_to (Err d)
   unfolding closing read_as
-  close_stops d is = at_stops (second_tag (part a e s)) s i (λ u. complete (length (drop i s)) (reached (phase_at q) x)) (λ a k. k) d is
+  close_stops d is = at_stops (second_tag m) s i (λ u. complete (length (drop i s)) (reached (phase_at q) x)) (λ a k. k) d is
 
-  pub close_ends : (n : ℕ) → Ok n ≡ read_at (second_tag (part a e s)) s i → (r : Result ℕ Blame)
+  pub close_ends : (n : ℕ) → Ok n ≡ read_at (second_tag m) s i → (r : Result ℕ Blame)
       → ((x : Ledger) → shown_by r (reached (phase_at q) x) ≡ read_on (complete (length s - i) (reached (phase_at q) x)) s n) → closes_to r
   unfolding closing read_as
   close_ends n is r f =
-      let w = steps.went (second_tag (part a e s)) s i (second_tag_leaves (part a e s)) n is in
-      got_goes (second_tag (part a e s)) s i (λ u. complete (length (drop i s)) (reached (phase_at q) x)) n _ w.1
+      let w = steps.went (second_tag m) s i (second_tag_leaves m) n is in
+      got_goes (second_tag m) s i (λ u. complete (length (drop i s)) (reached (phase_at q) x)) n _ w.1
       (f x ∙ ap (λ (k : ℕ). read_on (complete k (reached (phase_at q) x)) s n) (sym (length-drop i s)))
 
 -- ---- what a first tag comes to
@@ -286,12 +286,6 @@ module _ (s : Text) (i : ℕ) (t : Start) (w : List ℕ) (e : Entered s i t w) w
 module _ (s : Text) (i : ℕ) (t : Start) (o : Opening s i t) (l : Within s i t.next) where
   pub tag_entered : (w : List ℕ) → Ready s i i w → Entered s i t w
   tag_entered w r = record { tag = record { opening = o; within = l.high; short = r.short }; fits = r.fits }
-
-  pub name_low : i + 1 ≤ t.end
-  name_low = o.low
-
-  pub name_high : t.end ≤ length s
-  name_high = omega (arith, o.high, l.high)
 
 module _ (s : Text) (i : ℕ) (q : Phase) (w : List ℕ) (d : ℕ) (t : Start) (e : Entered s i t w) where
   abbrev enters_to : Row → Result Went Blame → List ℕ → Type 0

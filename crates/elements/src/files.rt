@@ -1,6 +1,6 @@
 // A whole file: what stands before the root element, the root, and what stands behind it.
 ghost use Rattle.std.specs.Prelude.{◌≡◌, ◌+◌, ◌≤◌, ◌<◌, length};
-ghost use Rattle.text.specs.Texts.{part, bytes, same};
+ghost use Rattle.text.specs.Texts.{bytes, same};
 ghost use Rattle.portals.specs.Readings.{kept_of, root_of};
 ghost use Rattle.markup.specs.Places.{Within, place_of, read_at};
 ghost use Rattle.ledger.specs.Ledgers.{ledgered, no_records};
@@ -40,12 +40,11 @@ pub fn trail(s: &[u8], at: usize) -> Result<usize, Fault>
     Ok(n)
 }
 
-// Whether the bytes from a to e are the root's name.
-pub fn is_root(s: &[u8], a: usize, e: usize) -> bool
-    requires { (a ≤ e) × (e ≤ length s.now) }
-    ensures { result ≡ same (part a e s.now) (bytes "web-app") }
+// Whether the name is the root's.
+pub fn is_root(name: &[u8]) -> bool
+    ensures { result ≡ same name.now (bytes "web-app") }
 {
-    texts::are_same(&s[a..e], b"web-app")
+    texts::are_same(name, b"web-app")
 }
 
 // The root element at `at`.
@@ -54,7 +53,7 @@ pub fn root(s: &[u8], at: usize, w: &mut [u32]) -> Result<Went, Fault>
     ensures { Comes s.now (root_of ledgered (ledger_at s.now w.old)) at result w.new }
 {
     let t = tags::start_tag(s, at)?;
-    if !is_root(s, at + 1, t.end) {
+    if !is_root(&s[at + 1..t.end]) {
         return Err(Fault::malformed(at));
     }
     walking::filling(s, at, BELOW_ROOT, t, Phase::InApp, w)

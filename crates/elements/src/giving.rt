@@ -82,7 +82,7 @@ pub fn tell(s: &[u8], at: usize, t: Start, out: &mut [u8]) -> Result<Gathered, F
     ensures kept { length out.new ≡ length out.old }
 {
     let g = gathering::gather(s, t.next, at, out)?;
-    let next = tags::second_tag(s, g.next, at + 1, t.end)?;
+    let next = tags::second_tag(s, g.next, &s[at + 1..t.end])?;
     Ok(Gathered { len: g.len, next })
 }
 

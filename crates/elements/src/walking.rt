@@ -1,6 +1,5 @@
 // Elements and what they hold, read by functions that call each other: below an element one level fewer is left.
 ghost use Rattle.std.specs.Prelude.{◌≡◌, ◌+◌, ◌-◌, ◌≤◌, length, drop};
-ghost use Rattle.text.specs.Texts.{part};
 ghost use Rattle.documents.specs.Chars.{after};
 ghost use Rattle.markup.specs.Places.{Within, place_of};
 ghost use Rattle.portals.specs.Elements.{sort_of, opening};
@@ -41,23 +40,22 @@ pub fn ended(s: &[u8], at: usize, next: usize, phase: Phase) -> Result<usize, Fa
     Err(Fault::malformed(at))
 }
 
-// The second tag of an element at `at`; its name is the bytes from a to e, and what is missing is missed there.
-pub fn close(s: &[u8], at: usize, a: usize, e: usize, phase: Phase) -> Result<usize, Fault>
-    requires { (at ≤ length s.now) × (a ≤ e) × (e ≤ length s.now) }
+// The second tag of an element of that name at `at`; what is missing is missed there.
+pub fn close(s: &[u8], at: usize, name: &[u8], phase: Phase) -> Result<usize, Fault>
+    requires { at ≤ length s.now }
     ensures within { place_of result ≤ length s.now }
-    ensures exact { Passes s.now phase (closing (part a e s.now)) at result }
+    ensures exact { Passes s.now phase (closing name.now) at result }
 {
-    let next = tags::second_tag(s, at, a, e)?;
+    let next = tags::second_tag(s, at, name)?;
     ended(s, at, next, phase)
 }
 
-// What the first tag comes to whose name is the bytes from a to e.
-pub fn row_at(s: &[u8], a: usize, e: usize, phase: Phase) -> Opening
-    requires { (a ≤ e) × (e ≤ length s.now) }
-    ensures is { opening_of result ≡ opening (phase_at phase) (sort_of (part a e s.now)) }
+// What a first tag of that name comes to.
+pub fn row_at(name: &[u8], phase: Phase) -> Opening
+    ensures is { opening_of result ≡ opening (phase_at phase) (sort_of name.now) }
     ensures fitting { FittingRow result }
 {
-    rows::row_of(phase, rows::sort_of(&s[a..e]))
+    rows::row_of(phase, rows::sort_of(name))
 }
 
 // A node at `at`: a byte of text, a comment or an element.
@@ -138,7 +136,7 @@ pub fn filling(
         return Ok(Went { next, phase: first });
     }
     let c = content(s, t.next, left, at, first, w)?;
-    let next = close(s, c.next, at + 1, t.end, c.phase)?;
+    let next = close(s, c.next, &s[at + 1..t.end], c.phase)?;
     Ok(Went {
         next,
         phase: c.phase,
@@ -198,6 +196,6 @@ pub fn element(s: &[u8], at: usize, left: usize, phase: Phase, w: &mut [u32]) ->
     ensures { Comes s.now (element_at left (reached_at s.now phase w.old)) at result w.new }
 {
     let t = tags::start_tag(s, at)?;
-    let row = row_at(s, at + 1, t.end, phase);
+    let row = row_at(&s[at + 1..t.end], phase);
     enter(s, at, left, phase, t, row, w)
 }

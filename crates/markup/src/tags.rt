@@ -1,6 +1,5 @@
 // The two tags of an element.
 ghost use Rattle.std.specs.Prelude.{◌≡◌, ◌≤◌, length, IfOk};
-ghost use Rattle.text.specs.Texts.{part};
 ghost use Rattle.documents.specs.Parts.{tag_end, start_tag, end_tag, second_tag};
 ghost use Rattle.markup.specs.Places.{Within, place_of, read_at, read_as, ended, ended_at, start_at, Opening, rest_of_tag, name_of_tag, whole_tag};
 
@@ -67,23 +66,23 @@ pub fn start_tag(s: &[u8], at: usize) -> Result<Start, Fault>
     answers::blame(first_tag(s, at), at, s.len())
 }
 
-// The second tag of an element at `at`, its faults where they are met; its name is the bytes from a to e.
-pub fn end_tag(s: &[u8], at: usize, a: usize, e: usize) -> Result<usize, Fault>
-    requires { (at ≤ length s.now) × (a ≤ e) × (e ≤ length s.now) }
+// The second tag of an element of that name at `at`, its faults where they are met.
+pub fn end_tag(s: &[u8], at: usize, name: &[u8]) -> Result<usize, Fault>
+    requires { at ≤ length s.now }
     ensures within { Within s.now at (place_of result) }
-    ensures exact { result ≡ read_at (end_tag (part a e s.now)) s.now at }
+    ensures exact { result ≡ read_at (end_tag name.now) s.now at }
 {
     let b = words::word(s, at, b"</")?;
-    let n = words::word(s, b, &s[a..e])?;
+    let n = words::word(s, b, name)?;
     let w = words::white(s, n);
     words::byte(s, w, b'>')
 }
 
-// The second tag of an element at `at`; its name is the bytes from a to e.
-pub fn second_tag(s: &[u8], at: usize, a: usize, e: usize) -> Result<usize, Fault>
-    requires { (at ≤ length s.now) × (a ≤ e) × (e ≤ length s.now) }
+// The second tag of an element of that name at `at`.
+pub fn second_tag(s: &[u8], at: usize, name: &[u8]) -> Result<usize, Fault>
+    requires { at ≤ length s.now }
     ensures within { Within s.now at (place_of result) }
-    ensures exact { result ≡ read_at (second_tag (part a e s.now)) s.now at }
+    ensures exact { result ≡ read_at (second_tag name.now) s.now at }
 {
-    answers::blame(end_tag(s, at, a, e), at, s.len())
+    answers::blame(end_tag(s, at, name), at, s.len())
 }

@@ -1,7 +1,7 @@
 -- `giving::tell` meets its contract.
 use borrow.Author.Rules.{rules}
 use Rattle.elements.proofs.Goings.{shown_passed_as}
-use Rattle.elements.proofs.Givings.{tagged_begun, tagged_named, tell_size, tell_text, tell_stops, tell_unclosed, tell_closes}
+use Rattle.elements.proofs.Givings.{tagged_begun, tell_size, tell_text, tell_stops, tell_unclosed, tell_closes}
 use Rattle.elements.proofs.giving.tell.Goals as goal
 
 pub gather-requires : goal.gather-requires
@@ -9,9 +9,6 @@ gather-requires c = search (rules, tagged_begun)
 
 pub returns-in_err-g-clause-exact : goal.returns-in_err-g-clause-exact
 returns-in_err-g-clause-exact c = shown_passed_as _ _ c.from_residual.ensures.1 (search (rules, tell_stops))
-
-pub second_tag-requires : goal.second_tag-requires
-second_tag-requires c = search (rules, tagged_named)
 
 pub returns-in_err-next-clause-exact : goal.returns-in_err-next-clause-exact
 returns-in_err-next-clause-exact c = shown_passed_as _ _ c.from_residual-in_err-next.ensures.1 (search (rules, tell_unclosed))
