@@ -1,13 +1,13 @@
 -- The records one after the other, and what each puts in the listing's order.
-use mathlib.Core.Path.{◌≡◌, refl, sym, ap, ap₂, ◌∙◌}
+use mathlib.Core.Path.{◌≡◌, refl, sym, ap, ap₂, subst, ◌∙◌}
 use mathlib.Core.Bool.{Bool, true, false, not, cond, ◌&&◌, ◌||◌}
 use mathlib.Core.List.{List, [], ◌∷◌, ◌++◌, map, append_assoc, append-nil}
-use Prim.Native.Nat.{ℕ, zero, suc, ◌+◌, ◌%◌, ◌≤◌, ◌<◌}
+use Prim.Native.Nat.{ℕ, zero, suc, ◌+◌, ◌-◌, ◌%◌, ◌≤◌, ◌<◌}
 use native.Mathlib.Numerals.{add-one}
 use native.Mathlib.Omega.{arith}
 use lib.Dec.{eqb, leb, ltb}
-use lib.ListN.{length, take, drop, get_or, length-append, length-map, get_or-map, drop_of_length-le}
-use lib.Seq.{sets, length-take-le, drop-cons, get_or-take}
+use lib.ListN.{length, take, drop, get_or, length-append, length-drop, length-map, get_or-map, drop_of_length-le}
+use lib.Seq.{sets, length-take-le, drop-cons, get_or-take, get_or-drop}
 use borrow.Author.Tests.{leb-true, ltb-false}
 use Rattle.text.specs.Texts.{Text}
 use Rattle.text.proofs.Truths.{and_left, and_right, never}
@@ -85,6 +85,20 @@ module _ (s : Text) (n : ℕ) (w : List ℕ) (F : Formed s n w) where
 
   pub record_taken : (i e : ℕ) → i < length (take n w) → e ≤ 999000 → Writable s (get_or (take n w) i 0) e
   record_taken i e h l = rw (get_or-take n w i 0 (taken_low i h)) (record_writable i e (taken_low i h) l)
+
+  -- among those from i to n
+  module _ (i k : ℕ) (a : i ≤ n) (h : k < length (take (n - i) (drop i w))) where
+    behind_count : length (take (n - i) (drop i w)) ≡ n - i
+    behind_count = length-take-le (n - i) (drop i w) (let l = length-drop i w in let f = F.within in omega arith)
+
+    pub behind_low : i + k < n
+    behind_low = let l = behind_count in omega arith
+
+    pub behind_is : get_or (take (n - i) (drop i w)) k 0 ≡ get_or w (i + k) 0
+    behind_is = get_or-take (n - i) (drop i w) k 0 (let l = behind_count in omega arith) ∙ get_or-drop i w k 0
+
+    pub record_behind : (e : ℕ) → e ≤ 999000 → Writable s (get_or (take (n - i) (drop i w)) k 0) e
+    record_behind e l = rw behind_is (record_writable (i + k) e behind_low l)
 
 -- ---- what one record puts
 pub lines_append : (a b : List Record) → lines_text (a ++ b) ≡ lines_text a ++ lines_text b
@@ -199,9 +213,9 @@ module _ (s : Text) (n : ℕ) (w : List ℕ) (F : Formed s n w) (i : ℕ) where
       ∙ ap lines_text (allows_then (record_at s (get_or w i 0)) (drop (i + 1) rs) (constraint_is s (get_or w i 0) ∙ c))
       ∙ lines_append (allows (record_at s (get_or w i 0) ∷ [])) (allows (drop (i + 1) rs))
 
-  pub allows_stop : i < n → (b : Bool) → b ≡ is_constraint (get_or w i 0) → b ≡ true → lines_text (allows (drop i rs)) ≡ []
+  stop_here : i < n → (b : Bool) → b ≡ is_constraint (get_or w i 0) → b ≡ true → lines_text (allows (drop i rs)) ≡ []
   unfolding lines_text allows
-  allows_stop h b e y =
+  stop_here h b e y =
       ap (λ (l : List Record). lines_text (allows l)) (record_here s n w F i h)
       ∙ ap (λ (b : Bool). lines_text (cond b [] (cond (is_kind Allow (record_at s (get_or w i 0))) (record_at s (get_or w i 0) ∷ allows (drop (i + 1) rs)) (allows (drop (i + 1) rs)))))
       (constraint_is s (get_or w i 0) ∙ sym e ∙ y)
@@ -256,11 +270,11 @@ module _ (s : Text) (n : ℕ) (w : List ℕ) (F : Formed s n w) (i : ℕ) where
             ap lines_text (roles_are s (get_or w i 0))
             ∙ ap₂ (λ (c : Bool) (y : ℕ). lines_text (chosen c (record_at s y))) (sym (q ∙ ap (λ (y : ℕ). eqb (y % 8) 0) here)) (sym here)
 
-    pub allow_turn : (e' : ℕ) (out' : Text) → i < n → (b : Bool) → b ≡ is_constraint (get_or w i 0) → b ≡ false → Left first at whole out e (lines_text (allows (drop i rs)))
+    turn_here : (e' : ℕ) (out' : Text) → i < n → (b : Bool) → b ≡ is_constraint (get_or w i 0) → b ≡ false → Left first at whole out e (lines_text (allows (drop i rs)))
         → (a : Bool) → a ≡ eqb (get_or w i 0 % 8) 3
         → e' ≡ e + length (lines_text (chosen a (record_at s (get_or w i 0)))) → out' ≡ sets out e (lines_text (chosen a (record_at s (get_or w i 0))))
         → Left first at whole out' e' (lines_text (allows (drop (i + 1) rs)))
-    allow_turn e' out' h t is c L a q p b =
+    turn_here e' out' h t is c L a q p b =
         left_behind first at whole out e _ (lines_text (chosen a (record_at s (get_or w i 0)))) _
         (allows_here h (sym is ∙ c)
         ∙ ap (λ (t : Text). t ++ lines_text (allows (drop (i + 1) rs))) (ap lines_text (allows_are s (get_or w i 0)) ∙ ap (λ (c : Bool). lines_text (chosen c (record_at s (get_or w i 0)))) (sym q)))
@@ -277,6 +291,28 @@ module _ (s : Text) (n : ℕ) (w : List ℕ) (F : Formed s n w) (i : ℕ) where
         let b : length (lines_text (blocks (drop i rs))) ≡ length (lines_text (begun (drop i rs))) + length (lines_text (blocks (drop (i + 1) rs)))
         = ap length (blocks_here h) ∙ length-append (lines_text (begun (drop i rs))) (lines_text (blocks (drop (i + 1) rs))) in
         omega arith
+
+-- ---- the names that are allowed from record i on: k of the records are behind
+module _ (s : Text) (n : ℕ) (w : List ℕ) (F : Formed s n w) (i k : ℕ) where
+  pub allows_stop : i ≤ n → k < length (take (n - i) (drop i w)) → (b : Bool) → b ≡ is_constraint (get_or (take (n - i) (drop i w)) k 0) → b ≡ true
+      → lines_text (allows (drop (i + k) (records_at s n w))) ≡ []
+  allows_stop a h b e y = stop_here s n w F (i + k) (behind_low s n w F i k a h) b (e ∙ ap is_constraint (behind_is s n w F i k a h)) y
+
+  pub allow_turn : (first : Text) (at : ℕ) (whole out : Text) (e e' : ℕ) (out' : Text) → i ≤ n → k < length (take (n - i) (drop i w))
+      → (b : Bool) → b ≡ is_constraint (get_or (take (n - i) (drop i w)) k 0) → b ≡ false → Left first at whole out e (lines_text (allows (drop (i + k) (records_at s n w))))
+      → (c : Bool) → c ≡ eqb (get_or (take (n - i) (drop i w)) k 0 % 8) 3
+      → e' ≡ e + length (lines_text (chosen c (record_at s (get_or (take (n - i) (drop i w)) k 0)))) → out' ≡ sets out e (lines_text (chosen c (record_at s (get_or (take (n - i) (drop i w)) k 0))))
+      → Left first at whole out' e' (lines_text (allows (drop (i + (k + 1)) (records_at s n w))))
+  allow_turn first at whole out e e' out' a h b is f L c q p d =
+      subst (λ (j : ℕ). Left first at whole out' e' (lines_text (allows (drop j (records_at s n w))))) next
+      (turn_here s n w F (i + k) first at whole out e e' out' (behind_low s n w F i k a h) b (is ∙ ap is_constraint here) f L c (q ∙ ap (λ (y : ℕ). eqb (y % 8) 3) here)
+        (p ∙ ap (λ (y : ℕ). e + length (lines_text (chosen c (record_at s y)))) here) (d ∙ ap (λ (y : ℕ). sets out e (lines_text (chosen c (record_at s y)))) here))
+    where
+      here : get_or (take (n - i) (drop i w)) k 0 ≡ get_or w (i + k) 0
+      here = behind_is s n w F i k a h
+
+      next : i + k + 1 ≡ i + (k + 1)
+      next = omega arith
 
 -- ---- a constraint and the names that it allows
 module _ (s : Text) (n : ℕ) (w : List ℕ) (F : Formed s n w) (i at e : ℕ) (h : i < n)

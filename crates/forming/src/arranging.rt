@@ -55,12 +55,11 @@ pub fn put_allows(s: &[u8], w: &[u32], i: usize, n: usize, out: &mut [u8], at: u
     ensures bytes { out.new ≡ sets out.old at (lines_text (allows (drop i (records_at s.now n w.now)))) }
 {
     let mut e = at;
-    for k in i..n {
-        let x = w[k];
-        if is_constraint(x) {
+    for x in &w[i..n] {
+        if is_constraint(*x) {
             return e;
         }
-        e = put_if(s, x, is_of(x, Item::Allow), out, e);
+        e = put_if(s, *x, is_of(*x, Item::Allow), out, e);
     }
     e
 }
