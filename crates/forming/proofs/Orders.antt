@@ -7,7 +7,7 @@ use native.Mathlib.Numerals.{add-one}
 use native.Mathlib.Omega.{arith}
 use lib.Dec.{eqb, leb, ltb}
 use lib.ListN.{length, take, drop, get_or, length-append, length-drop, length-map, get_or-map, drop_of_length-le}
-use lib.Seq.{sets, length-take-le, drop-cons, get_or-take, get_or-drop}
+use lib.Seq.{sets, length-take-le, drop-cons, get_or-take, get_or-drop, take_all}
 use borrow.Author.Tests.{leb-true, ltb-false}
 use Rattle.text.specs.Texts.{Text}
 use Rattle.text.proofs.Truths.{and_left, and_right, never}
@@ -79,13 +79,6 @@ module _ (s : Text) (n : ℕ) (w : List ℕ) (F : Formed s n w) where
   pub record_writable : (i e : ℕ) → i < n → e ≤ 999000 → Writable s (get_or w i 0) e
   record_writable i e h l = record { short = F.short; fits = fits_here i h; low = l }
 
-  -- among the first n
-  taken_low : (i : ℕ) → i < length (take n w) → i < n
-  taken_low i h = omega (arith, length-take-le n w F.within)
-
-  pub record_taken : (i e : ℕ) → i < length (take n w) → e ≤ 999000 → Writable s (get_or (take n w) i 0) e
-  record_taken i e h l = rw (get_or-take n w i 0 (taken_low i h)) (record_writable i e (taken_low i h) l)
-
   -- among those from i to n
   module _ (i k : ℕ) (a : i ≤ n) (h : k < length (take (n - i) (drop i w))) where
     behind_count : length (take (n - i) (drop i w)) ≡ n - i
@@ -99,6 +92,27 @@ module _ (s : Text) (n : ℕ) (w : List ℕ) (F : Formed s n w) where
 
     pub record_behind : (e : ℕ) → e ≤ 999000 → Writable s (get_or (take (n - i) (drop i w)) k 0) e
     record_behind e l = rw behind_is (record_writable (i + k) e behind_low l)
+
+-- ---- the first n numbers of a table, lent
+module _ (s : Text) (n : ℕ) (w : List ℕ) (F : Formed s n w) where
+  lent_count : length (take n w) ≡ n
+  lent_count = length-take-le n w F.within
+
+  pub lent_records : records_at s (length (take n w)) (take n w) ≡ records_at s n w
+  unfolding records_at
+  lent_records =
+      ap (λ (k : ℕ). map (record_at s) (take (least k most_kept) (take n w))) lent_count
+      ∙ ap (λ (k : ℕ). map (record_at s) (take k (take n w))) (few_kept n F.few)
+      ∙ ap (map (record_at s)) (take_all n (take n w) (let c = lent_count in omega arith))
+      ∙ sym (records_are s n w F)
+
+  pub lent_formed : Formed s (length (take n w)) (take n w)
+  lent_formed = record {
+    short = F.short;
+    few = (let c = lent_count in let f = F.few in omega arith);
+    within = omega arith;
+    fit = ap fields_fit lent_records ∙ F.fit;
+  }
 
 -- ---- what one record puts
 pub lines_append : (a b : List Record) → lines_text (a ++ b) ≡ lines_text a ++ lines_text b
@@ -253,22 +267,15 @@ module _ (s : Text) (n : ℕ) (w : List ℕ) (F : Formed s n w) (i : ℕ) where
     pub turn_low : (t : Text) → Left first at whole out e t → at + length whole ≤ 999000 → e ≤ 999000
     turn_low t L h = let l = left_low first at whole out e 999000 t L h in omega arith
 
-    pub role_turn : (e' : ℕ) (out' : Text) → i < length (take n w) → Left first at whole out e (lines_text (roles_first (drop i rs)))
-        → (b : Bool) → b ≡ eqb (get_or (take n w) i 0 % 8) 0
-        → e' ≡ e + length (lines_text (chosen b (record_at s (get_or (take n w) i 0)))) → out' ≡ sets out e (lines_text (chosen b (record_at s (get_or (take n w) i 0))))
+    pub role_turn : (e' : ℕ) (out' : Text) → i < n → Left first at whole out e (lines_text (roles_first (drop i rs)))
+        → (b : Bool) → b ≡ eqb (get_or w i 0 % 8) 0
+        → e' ≡ e + length (lines_text (chosen b (record_at s (get_or w i 0)))) → out' ≡ sets out e (lines_text (chosen b (record_at s (get_or w i 0))))
         → Left first at whole out' e' (lines_text (roles_first (drop (i + 1) rs)))
-    role_turn e' out' h L b q p d = left_behind first at whole out e _ (lines_text (chosen b (record_at s (get_or (take n w) i 0)))) _ (roles_here l ∙ ap (λ (t : Text). t ++ lines_text (roles_first (drop (i + 1) rs))) its_lines) L e' out' p d
-      where
-        l : i < n
-        l = taken_low s n w F i h
-
-        here : get_or (take n w) i 0 ≡ get_or w i 0
-        here = get_or-take n w i 0 l
-
-        its_lines : lines_text (roles_first (record_at s (get_or w i 0) ∷ [])) ≡ lines_text (chosen b (record_at s (get_or (take n w) i 0)))
-        its_lines =
-            ap lines_text (roles_are s (get_or w i 0))
-            ∙ ap₂ (λ (c : Bool) (y : ℕ). lines_text (chosen c (record_at s y))) (sym (q ∙ ap (λ (y : ℕ). eqb (y % 8) 0) here)) (sym here)
+    role_turn e' out' h L b q p d =
+        left_behind first at whole out e _ (lines_text (chosen b (record_at s (get_or w i 0)))) _
+        (roles_here h
+        ∙ ap (λ (t : Text). t ++ lines_text (roles_first (drop (i + 1) rs))) (ap lines_text (roles_are s (get_or w i 0)) ∙ ap (λ (c : Bool). lines_text (chosen c (record_at s (get_or w i 0)))) (sym q)))
+        L e' out' p d
 
     turn_here : (e' : ℕ) (out' : Text) → i < n → (b : Bool) → b ≡ is_constraint (get_or w i 0) → b ≡ false → Left first at whole out e (lines_text (allows (drop i rs)))
         → (a : Bool) → a ≡ eqb (get_or w i 0 % 8) 3

@@ -35,27 +35,27 @@ pub fn put_if(s: &[u8], x: u32, wanted: bool, out: &mut [u8], at: usize) -> usiz
     at
 }
 
-// The lines of the roles among the first n records; the place behind them.
-pub fn put_roles(s: &[u8], w: &[u32], n: usize, out: &mut [u8], at: usize) -> usize
-    requires { Formed s.now n w.now × (at + length (lines_text (roles_first (records_at s.now n w.now))) ≤ 999000) }
-    ensures place { result ≡ at + length (lines_text (roles_first (records_at s.now n w.now))) }
-    ensures bytes { out.new ≡ sets out.old at (lines_text (roles_first (records_at s.now n w.now))) }
+// The lines of the roles among the records; the place behind them.
+pub fn put_roles(s: &[u8], records: &[u32], out: &mut [u8], at: usize) -> usize
+    requires { Formed s.now (length records.now) records.now × (at + length (lines_text (roles_first (records_at s.now (length records.now) records.now))) ≤ 999000) }
+    ensures place { result ≡ at + length (lines_text (roles_first (records_at s.now (length records.now) records.now))) }
+    ensures bytes { out.new ≡ sets out.old at (lines_text (roles_first (records_at s.now (length records.now) records.now))) }
 {
     let mut e = at;
-    for x in &w[..n] {
+    for x in records {
         e = put_if(s, *x, is_of(*x, Item::Role), out, e);
     }
     e
 }
 
 // The lines of the names that are allowed from record i on, up to the next constraint; the place behind them.
-pub fn put_allows(s: &[u8], w: &[u32], i: usize, n: usize, out: &mut [u8], at: usize) -> usize
-    requires { Formed s.now n w.now × ((i ≤ n) × (at + length (lines_text (allows (drop i (records_at s.now n w.now)))) ≤ 999000)) }
-    ensures place { result ≡ at + length (lines_text (allows (drop i (records_at s.now n w.now)))) }
-    ensures bytes { out.new ≡ sets out.old at (lines_text (allows (drop i (records_at s.now n w.now)))) }
+pub fn put_allows(s: &[u8], records: &[u32], i: usize, out: &mut [u8], at: usize) -> usize
+    requires { Formed s.now (length records.now) records.now × ((i ≤ length records.now) × (at + length (lines_text (allows (drop i (records_at s.now (length records.now) records.now)))) ≤ 999000)) }
+    ensures place { result ≡ at + length (lines_text (allows (drop i (records_at s.now (length records.now) records.now)))) }
+    ensures bytes { out.new ≡ sets out.old at (lines_text (allows (drop i (records_at s.now (length records.now) records.now)))) }
 {
     let mut e = at;
-    for x in &w[i..n] {
+    for x in &records[i..] {
         if is_constraint(*x) {
             return e;
         }
@@ -65,41 +65,41 @@ pub fn put_allows(s: &[u8], w: &[u32], i: usize, n: usize, out: &mut [u8], at: u
 }
 
 // What record i puts: a constraint its line and the names that it allows; the place behind it.
-pub fn put_block(s: &[u8], w: &[u32], i: usize, n: usize, out: &mut [u8], at: usize) -> usize
-    requires { Formed s.now n w.now × ((i < n) × (at + length (lines_text (begun (drop i (records_at s.now n w.now)))) ≤ 999000)) }
-    ensures place { result ≡ at + length (lines_text (begun (drop i (records_at s.now n w.now)))) }
-    ensures bytes { out.new ≡ sets out.old at (lines_text (begun (drop i (records_at s.now n w.now)))) }
+pub fn put_block(s: &[u8], records: &[u32], i: usize, out: &mut [u8], at: usize) -> usize
+    requires { Formed s.now (length records.now) records.now × ((i < length records.now) × (at + length (lines_text (begun (drop i (records_at s.now (length records.now) records.now)))) ≤ 999000)) }
+    ensures place { result ≡ at + length (lines_text (begun (drop i (records_at s.now (length records.now) records.now)))) }
+    ensures bytes { out.new ≡ sets out.old at (lines_text (begun (drop i (records_at s.now (length records.now) records.now)))) }
 {
-    let x = w[i];
+    let x = records[i];
     if is_constraint(x) {
         let e = lines::put_record(s, x, out, at);
-        return put_allows(s, w, i + 1, n, out, e);
+        return put_allows(s, records, i + 1, out, e);
     }
     let wanted = !is_of(x, Item::Role) & !is_of(x, Item::Allow);
     put_if(s, x, wanted, out, at)
 }
 
 // The lines of the constraints and what they hold; the place behind them.
-pub fn put_blocks(s: &[u8], w: &[u32], n: usize, out: &mut [u8], at: usize) -> usize
-    requires { Formed s.now n w.now × (at + length (lines_text (blocks (records_at s.now n w.now))) ≤ 999000) }
-    ensures place { result ≡ at + length (lines_text (blocks (records_at s.now n w.now))) }
-    ensures bytes { out.new ≡ sets out.old at (lines_text (blocks (records_at s.now n w.now))) }
+pub fn put_blocks(s: &[u8], records: &[u32], out: &mut [u8], at: usize) -> usize
+    requires { Formed s.now (length records.now) records.now × (at + length (lines_text (blocks (records_at s.now (length records.now) records.now))) ≤ 999000) }
+    ensures place { result ≡ at + length (lines_text (blocks (records_at s.now (length records.now) records.now))) }
+    ensures bytes { out.new ≡ sets out.old at (lines_text (blocks (records_at s.now (length records.now) records.now))) }
 {
     let mut e = at;
-    for i in 0..n {
-        e = put_block(s, w, i, n, out, e);
+    for i in 0..records.len() {
+        e = put_block(s, records, i, out, e);
     }
     e
 }
 
 // The whole listing; its length.
-pub fn put_listing(s: &[u8], w: &[u32], n: usize, out: &mut [u8]) -> usize
-    requires { Formed s.now n w.now }
-    ensures size { result ≡ length (written (records_at s.now n w.now)) }
-    ensures bytes { out.new ≡ sets out.old 0 (written (records_at s.now n w.now)) }
+pub fn put_listing(s: &[u8], records: &[u32], out: &mut [u8]) -> usize
+    requires { Formed s.now (length records.now) records.now }
+    ensures size { result ≡ length (written (records_at s.now (length records.now) records.now)) }
+    ensures bytes { out.new ≡ sets out.old 0 (written (records_at s.now (length records.now) records.now)) }
 {
     let a = writing::put(out, 0, b"constraints\t1\n");
-    let b = put_roles(s, w, n, out, a);
-    let c = put_blocks(s, w, n, out, b);
+    let b = put_roles(s, records, out, a);
+    let c = put_blocks(s, records, out, b);
     writing::put(out, c, b"end\n")
 }

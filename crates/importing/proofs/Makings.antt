@@ -5,7 +5,7 @@ use mathlib.Core.List.{List, [], ◌++◌}
 use Prim.Native.Nat.{ℕ, ◌≤◌, ◌<◌}
 use native.Mathlib.Omega.{arith}
 use lib.Dec.{eqb, ltb}
-use lib.ListN.{length, drop, get_or}
+use lib.ListN.{length, take, drop, get_or}
 use lib.Seq.{sets}
 use borrow.Author.Tests.{lt-ltb, le-ltb}
 use Rattle.text.specs.Texts.{Text}
@@ -18,6 +18,7 @@ use Rattle.portals.specs.Outcomes.{Handed, handed, made_of}
 use Rattle.ledger.specs.Ledgers.{most_kept}
 use Rattle.ledger.specs.Places.{ledger_at, records_at, size_at}
 use Rattle.forming.specs.Formed.{fields_fit, Formed}
+use Rattle.forming.proofs.Orders.{lent_records, lent_formed}
 use Rattle.importing.specs.Calls.{Formable, made_in, formed_of, formed_in}
 
 -- ---- what is handed back, by its report
@@ -109,17 +110,23 @@ module _ (s : Text) (w : List ℕ) (n : ℕ) (count : n ≡ get_or w size_at 0) 
     few_is : ltb most_kept (ledger_at s w).size ≡ false
     few_is = ap (ltb most_kept) size_is ∙ le-ltb most_kept n h
 
-    pub few_formed : Formable s w → Formed s n w
-    few_formed F = record { short = F.short; few = h; within = (let r = F.fits.room in omega arith); fit = ap fields_fit (sym records_are) ∙ F.fit }
+    kept_formed : Formable s w → Formed s n w
+    kept_formed F = record { short = F.short; few = h; within = (let r = F.fits.room in omega arith); fit = ap fields_fit (sym records_are) ∙ F.fit }
 
-    pub few_handed : (x : Handed) (room : ℕ) → x ≡ made_of (written (records_at s n w)) room → x ≡ formed_of (ledger_at s w) room
+    pub few_formed : Formable s w → Formed s (length (take n w)) (take n w)
+    few_formed F = lent_formed s n w (kept_formed F)
+
+    lent_are : Formable s w → records_at s (length (take n w)) (take n w) ≡ (ledger_at s w).records
+    lent_are F = lent_records s n w (kept_formed F) ∙ sym records_are
+
+    pub few_handed : Formable s w → (x : Handed) (room : ℕ) → x ≡ made_of (written (records_at s (length (take n w)) (take n w))) room → x ≡ formed_of (ledger_at s w) room
     unfolding formed_of
-    few_handed x room e =
-        e ∙ ap (λ rs. made_of (written rs) room) (sym records_are)
+    few_handed F x room e =
+        e ∙ ap (λ rs. made_of (written rs) room) (lent_are F)
         ∙ sym (ap (λ (b : Bool). cond b (handed 2 1 0 0) (made_of (written (ledger_at s w).records) room)) few_is)
 
-    pub few_left : (out d : Text) → d ≡ made_in (written (records_at s n w)) out → d ≡ formed_in (ledger_at s w) out
+    pub few_left : Formable s w → (out d : Text) → d ≡ made_in (written (records_at s (length (take n w)) (take n w))) out → d ≡ formed_in (ledger_at s w) out
     unfolding formed_in
-    few_left out d e =
-        e ∙ ap (λ rs. made_in (written rs) out) (sym records_are)
+    few_left F out d e =
+        e ∙ ap (λ rs. made_in (written rs) out) (lent_are F)
         ∙ sym (ap (λ (b : Bool). cond b out (made_in (written (ledger_at s w).records) out)) few_is)

@@ -20,20 +20,20 @@ use markup::answers::Fault;
 use markup::lines;
 use worktable;
 
-// The listing for the first n records, written where it is not too long and the buffer is long enough.
-pub fn make(s: &[u8], w: &[u32], n: usize, listing: &mut [u8]) -> Import
-    requires { Formed s.now n w.now }
-    ensures handed { handed_by result ≡ made_of (written (records_at s.now n w.now)) (length listing.old) }
-    ensures buffer { listing.new ≡ made_in (written (records_at s.now n w.now)) listing.old }
+// The listing for the records, written where it is not too long and the buffer is long enough.
+pub fn make(s: &[u8], records: &[u32], listing: &mut [u8]) -> Import
+    requires { Formed s.now (length records.now) records.now }
+    ensures handed { handed_by result ≡ made_of (written (records_at s.now (length records.now) records.now)) (length listing.old) }
+    ensures buffer { listing.new ≡ made_in (written (records_at s.now (length records.now) records.now)) listing.old }
 {
-    let m = arranging::put_listing(s, w, n, &mut listing[..0]);
+    let m = arranging::put_listing(s, records, &mut listing[..0]);
     if limits::BYTES < m {
         return answers::refuse(LONG_LISTING, 1, 0);
     }
     if listing.len() < m {
         return answers::tell(answers::SMALL_LISTING, m);
     }
-    arranging::put_listing(s, w, n, listing);
+    arranging::put_listing(s, records, listing);
     answers::tell(0, m)
 }
 
@@ -50,7 +50,7 @@ pub fn form(s: &[u8], w: &[u32], listing: &mut [u8]) -> Import
     if MOST < n {
         return answers::refuse(LONG_LISTING, 1, 0);
     }
-    make(s, w, n, listing)
+    make(s, &w[..n], listing)
 }
 
 // What comes of a file that is read: the fault and its line, or the listing.

@@ -8,4 +8,4 @@ use Rattle.forming.proofs.arranging.put_blocks.Given as goal
 
 abbrev pub invariant-loop-i : goal.invariant-loop-i
 invariant-loop-i l =
-    (length l.out ≡ length l.initial.out) × Left l.initial.out l.at (lines_text (blocks (records_at l.s l.n l.w))) l.out l.e (lines_text (blocks (drop l.i (records_at l.s l.n l.w))))
+    (length l.out ≡ length l.initial.out) × Left l.initial.out l.at (lines_text (blocks (records_at l.s (length l.records) l.records))) l.out l.e (lines_text (blocks (drop l.i (records_at l.s (length l.records) l.records))))

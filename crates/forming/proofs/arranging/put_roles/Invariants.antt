@@ -8,4 +8,4 @@ use Rattle.forming.proofs.arranging.put_roles.Given as goal
 
 abbrev pub invariant-loop-x : goal.invariant-loop-x
 invariant-loop-x l =
-    (length l.out ≡ length l.initial.out) × Left l.initial.out l.at (lines_text (roles_first (records_at l.s l.n l.w))) l.out l.e (lines_text (roles_first (drop l.x-index (records_at l.s l.n l.w))))
+    (length l.out ≡ length l.initial.out) × Left l.initial.out l.at (lines_text (roles_first (records_at l.s (length l.records) l.records))) l.out l.e (lines_text (roles_first (drop l.x-index (records_at l.s (length l.records) l.records))))
