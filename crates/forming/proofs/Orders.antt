@@ -313,7 +313,7 @@ module _ (s : Text) (n : ℕ) (w : List ℕ) (F : Formed s n w) (i k : ℕ) wher
   allow_turn first at whole out e e' out' a h b is f L c q p d =
       subst (λ (j : ℕ). Left first at whole out' e' (lines_text (allows (drop j (records_at s n w))))) next
       (turn_here s n w F (i + k) first at whole out e e' out' (behind_low s n w F i k a h) b (is ∙ ap is_constraint here) f L c (q ∙ ap (λ (y : ℕ). eqb (y % 8) 3) here)
-        (p ∙ ap (λ (y : ℕ). e + length (lines_text (chosen c (record_at s y)))) here) (d ∙ ap (λ (y : ℕ). sets out e (lines_text (chosen c (record_at s y)))) here))
+      (p ∙ ap (λ (y : ℕ). e + length (lines_text (chosen c (record_at s y)))) here) (d ∙ ap (λ (y : ℕ). sets out e (lines_text (chosen c (record_at s y)))) here))
     where
       here : get_or (take (n - i) (drop i w)) k 0 ≡ get_or w (i + k) 0
       here = behind_is s n w F i k a h
