@@ -2,7 +2,6 @@
 ghost use Rattle.std.specs.Prelude.{◌≡◌, ◌*◌, ◌≤◌, length};
 ghost use Rattle.worktable.specs.Work.{zeroed};
 ghost use Rattle.listings.specs.Refusals.{reading_of};
-ghost use Rattle.reading.specs.Holds.{LoadOutcome};
 ghost use Rattle.walks.specs.Walks.{walked};
 ghost use Rattle.showing.specs.Shown.{Telling};
 ghost use Rattle.comparisons.specs.Outcomes.{compared_both, compared_old, comparison_for, answer_for, CompareOutcome};
@@ -10,14 +9,12 @@ ghost use Rattle.comparing.specs.Tellings.{BothRead, Prepared, IsFiller, IsTrial
 
 use comparisons::answers;
 use comparisons::answers::Comparison;
-use entries::tables::Tally;
 use fillers::finding;
 use grants::scratch::Counts;
 use listings::answers::{SHORT_TABLE, SMALL_ANSWER};
 use numbers::numbering;
 use reading::held::View;
 use reading::reader;
-use reading::reader::Refusal;
 use showing::hits;
 use walks::walking;
 use walks::walking::Hit;
@@ -76,21 +73,21 @@ pub fn compare_held<'a>(
     compare_numbers(old, new, x, n, c, answer)
 }
 
-// What is compared once both listings are read, old into wo and new into wn.
-pub fn compare_loaded<'a>(
-    lo: Result<Tally, Refusal>,
-    ln: Result<Tally, Refusal>,
-    old: &'a [u8],
-    new: &'a [u8],
-    wo: &'a [u32],
-    wn: &'a [u32],
+// What is compared once old is read into wo and new into wn.
+pub fn compare_read(
+    old: &[u8],
+    new: &[u8],
+    wo: &mut [u32],
+    wn: &mut [u32],
     x: &mut [u32],
     answer: &mut [u8],
 ) -> Comparison
-    requires { (LoadOutcome old.now lo wo.now × LoadOutcome new.now ln wn.now) × ((length x.old ≡ 2048) × (1024 ≤ length answer.old)) }
+    requires { ((length wo.old ≡ 1024) × (length wn.old ≡ 1024)) × ((length x.old ≡ 2048) × (1024 ≤ length answer.old)) }
     ensures handed { result ≡ comparison_for (compared_old old.now new.now (reading_of old.now)) }
     ensures answer { answer.new ≡ answer_for (compared_old old.now new.now (reading_of old.now)) answer.old }
 {
+    let lo = reader::load(old, wo);
+    let ln = reader::load(new, wn);
     match lo {
         Err(r) => answers::refuse(u32::from(r.fault), 1, r.line),
         Ok(to) => match ln {
@@ -119,9 +116,7 @@ pub fn compare_with(
 {
     let (wo, rest) = w.split_at_mut(n);
     let (wn, x) = rest.split_at_mut(n);
-    let lo = reader::load(old, wo);
-    let ln = reader::load(new, wn);
-    let c = compare_loaded(lo, ln, old, new, wo, wn, &mut x[..2 * n], answer);
+    let c = compare_read(old, new, wo, wn, &mut x[..2 * n], answer);
     worktable::zero_first(w, 4 * n);
     c
 }

@@ -1,7 +1,7 @@
--- `comparer::compare_loaded` meets its contract: by what reading answered, old first.
+-- `comparer::compare_read` meets its contract: by what reading answered, old first.
 use borrow.Author.Rules.{rules}
 use Rattle.comparing.proofs.Compares.{both_read, old_refused, old_keeps, new_refused, new_keeps, both_handed, both_written}
-use Rattle.comparing.proofs.comparer.compare_loaded.Goals as goal
+use Rattle.comparing.proofs.comparer.compare_read.Goals as goal
 
 pub compare_held-requires : goal.compare_held-requires
 compare_held-requires c = (search (rules, both_read), search rules)
