@@ -38,7 +38,7 @@ use Rattle.ledger.specs.Ledgers.{Ledger, ledgered, ledger_fault, kept, marked}
 use Rattle.ledger.specs.declared.items.Item.{Item}
 use Rattle.ledger.specs.declared.items.Item.TheVariants as I
 use Rattle.ledger.specs.Places.{text_at, field_by, kind_by, number_of, record_by, ledger_at, Fits, Added, AddedBy, Offered, Judged, Guarded, long_fault}
-use Rattle.ledger.proofs.Letters.{text_read, gathered_size}
+use Rattle.ledger.proofs.Letters.{refused_none, text_read, gathered_size}
 use Rattle.elements.specs.declared.giving.Went.{Went}
 use Rattle.elements.specs.declared.rows.Effect.{Effect}
 use Rattle.elements.specs.declared.rows.Effect.TheVariants as E
@@ -179,8 +179,16 @@ module _ (s : Text) (p : ℕ) (t : Start) where
       pub tell_size : g.len ≡ length (text_at s t.next)
       tell_size = gathered_size (length s - p) s t.next g e
 
-  pub tell_text : (n : ℕ) (out : Text) → (n ≤ length out → take n out ≡ trimmed letters_there) → n ≤ length out → take n out ≡ text_at s t.next
-  tell_text n out f l = f l ∙ sym (text_read (length s - p) s t.next)
+  -- beside a fault in the text there is none
+  pub tell_none : (e : Blame) (out : Text) → Err e ≡ read_as gathered (letters (length s - p)) s t.next → take (length (text_at s t.next)) out ≡ text_at s t.next
+  tell_none e out h = rw (refused_none (length s - p) s t.next e h) refl
+
+  -- and one that was gathered stands in the buffer
+  pub tell_text : (g : Gathered) (out : Text) → Ok g ≡ read_as gathered (letters (length s - p)) s t.next → (g.len ≤ length out → take g.len out ≡ trimmed letters_there)
+      → length (text_at s t.next) ≤ length out → take (length (text_at s t.next)) out ≡ text_at s t.next
+  tell_text g out e f l =
+      let z : g.len ≡ length (text_at s t.next) = gathered_size (length s - p) s t.next g e in
+      ap (λ (n : ℕ). take n out) (sym z) ∙ f (rw z l) ∙ sym (text_read (length s - p) s t.next)
 
 -- ---- the kinds of records that have a text
 module _ (k : ℕ) (h : is_text_kind k ≡ true) where
@@ -308,9 +316,10 @@ module _ (s : Text) (p : ℕ) (t : Start) (w : List ℕ) (e : Entered s p t w) (
       fits = e.fits;
     })
 
-    module _ (m : ℕ) (out : Text) (short : m ≤ 255) (room : length out ≡ 256) (text : m ≤ length out → take m out ≡ text_at s t.next) where
+    module _ (m : ℕ) (out : Text) (size : m ≡ length (text_at s t.next)) (short : m ≤ 255) (room : length out ≡ 256)
+      (text : length (text_at s t.next) ≤ length out → take (length (text_at s t.next)) out ≡ text_at s t.next) where
       text_is : take m out ≡ text_at s t.next
-      text_is = text (omega arith)
+      text_is = ap (λ (n : ℕ). take n out) size ∙ text (omega (arith, size))
 
       pub text_saying : Saying s p t.next n k.item (take m out) w
       text_saying = record { offered = offered_text t.next (take m out) e.tag.within (sym text_is); here = here; within = l }

@@ -72,13 +72,13 @@ pub fn say(
     })
 }
 
-// The text that follows the first tag t at `at`, into out, and the second tag. What doesn't fit is not written, and counted all the same.
+// The text that follows the first tag t at `at`, into out, and the second tag. What doesn't fit is not written, and counted all the same. Beside a fault too, a text that fits stands in out.
 pub fn tell(s: &[u8], at: usize, t: Start, out: &mut [u8]) -> Result<Gathered, Fault>
     requires { Tagged s.now at t × (t.full ≡ true) }
     ensures within { place_of (gathered_at result) ≤ length s.now }
     ensures exact { shown_by (gathered_at result) (text_at s.now t.next) ≡ read_on (telling (length s.now - at) (opened_by s.now at t)) s.now t.next }
     ensures size { IfOk result (λ g. g.len ≡ length (text_at s.now t.next)) }
-    ensures text { IfOk result (λ g. g.len ≤ length out.new → take g.len out.new ≡ text_at s.now t.next) }
+    ensures text { length (text_at s.now t.next) ≤ length out.new → take (length (text_at s.now t.next)) out.new ≡ text_at s.now t.next }
     ensures kept { length out.new ≡ length out.old }
 {
     let g = gathering::gather(s, t.next, at, out)?;

@@ -14,7 +14,7 @@ pub returns-then-g-gt255 : goal.returns-then-g-gt255
 returns-then-g-gt255 c = text_long _ _ _ _ c.requires.0 c.args.leaf c.requires.1 _ c.in_ok-g.ensures.exact c.in_ok-g.ensures.within _ _ c.in_ok-g.ensures.size c.if-g-gt255.true c.too_long_fault-cause.ensures
 
 pub say-requires : goal.say-requires
-say-requires c = text_saying _ _ _ _ c.requires.0 c.args.leaf c.requires.1 _ c.in_ok-g.ensures.exact c.in_ok-g.ensures.within _ _ c.if-g-gt255.false (search rules) c.in_ok-g.ensures.text
+say-requires c = text_saying _ _ _ _ c.requires.0 c.args.leaf c.requires.1 _ c.in_ok-g.ensures.exact c.in_ok-g.ensures.within _ _ c.in_ok-g.ensures.size c.if-g-gt255.false (search rules) c.in_ok-g.ensures.text
 
 pub returns : goal.returns
-returns c = text_said _ _ _ _ c.requires.0 c.args.leaf c.requires.1 _ c.in_ok-g.ensures.exact c.in_ok-g.ensures.within _ _ c.if-g-gt255.false (search rules) c.in_ok-g.ensures.text _ _ c.say.ensures
+returns c = text_said _ _ _ _ c.requires.0 c.args.leaf c.requires.1 _ c.in_ok-g.ensures.exact c.in_ok-g.ensures.within _ _ c.in_ok-g.ensures.size c.if-g-gt255.false (search rules) c.in_ok-g.ensures.text _ _ c.say.ensures
