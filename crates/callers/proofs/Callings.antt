@@ -166,7 +166,7 @@ module _ (view : View) (s : Text) (k x at : ℕ) (v : Naming view s k x at) wher
 
   module _ (p : ℕ) (q : p ≡ at + to_field_end (drop at s)) where
     -- the next name lacks its byte 10
-    name_open : at < length s → length s ≤ p → None ≡ check_names view 0 0 (lines_of s)
+    pub name_open : at < length s → length s ≤ p → None ≡ check_names view 0 0 (lines_of s)
     unfolding check_names
     name_open h g =
         let n : 0 < length (drop at s) = rw (length-drop at s) (omega arith) in
@@ -174,7 +174,7 @@ module _ (view : View) (s : Text) (k x at : ℕ) (v : Naming view s k x at) wher
         sym (v.due ∙ rw (line_open (drop at s) n m))
 
     -- it has a tab
-    name_tabbed : p < length s → (get_or s p 0 ≡ 10 → ⊥) → None ≡ check_names view 0 0 (lines_of s)
+    pub name_tabbed : p < length s → (get_or s p 0 ≡ 10 → ⊥) → None ≡ check_names view 0 0 (lines_of s)
     name_tabbed h n = sym (v.due ∙ unclean_bad view k x (lines_of (drop at s)) (tabbed_line s at p q h n))
 
     -- no byte 10 ends it

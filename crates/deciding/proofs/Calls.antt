@@ -141,14 +141,14 @@ module _ (s path method names : Text) (login : ℕ) (p : Bool) (on-path : p ≡ 
 -- ---- a listing that is read
 module _ (s : Text) (l : Result Tally Refusal) (w : List ℕ) (L : LoadOutcome s l w) where
   -- one that is read whole is held
-  loaded_listing : (t : Tally) → l ≡ Ok t → HoldsListing s t w
-  loaded_listing t e = rw e at L.holds
+  pub loaded_holds : (t : Tally) → l ≡ Ok t → HoldsListing s t w
+  loaded_holds t e = rw e at L.holds
 
-  pub loaded_holds : (t : Tally) → l ≡ Ok t → Holds s t w
-  loaded_holds t e = (loaded_listing t e).holds
+  pub loaded_table : (t : Tally) → l ≡ Ok t → Holds s t w
+  loaded_table t e = (loaded_holds t e).holds
 
   pub loaded_viewed : (t : Tally) (v : View) → l ≡ Ok t → v ≡ view_at s t w → ListingHeld s v
-  loaded_viewed t v e q = listing_viewed s t w v (loaded_listing t e) q
+  loaded_viewed t v e q = listing_viewed s t w v (loaded_holds t e) q
 
   module _ (path method names : Text) (login : ℕ) (d : Decision) where
     -- then the request decides

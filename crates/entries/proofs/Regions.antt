@@ -149,7 +149,7 @@ module _ (s : Text) (x : ℕ) (t : Text) (key : ℕ) (q : key ≡ stamp_of t) (e
 -- ---- a number's text, as the code takes it out
 module _ (s : Text) (x : ℕ) where
   -- what would run past the end is shorter than the number says, or empty
-  text_out : length s < x / 65536 + x % 256 → [] ≡ text_at s x
+  pub text_out : length s < x / 65536 + x % 256 → [] ≡ text_at s x
   unfolding text_at stamped
   text_out h = go (x % 256) refl
     where
@@ -326,7 +326,7 @@ module _ (s t : Text) (w : List ℕ) (a n k : ℕ) (room : a + n ≤ length w) w
 
   -- m is where it is found, and none of the first k is it
   module _ (m : ℕ) (v : m ≡ k + index_of t (drop k (texts_at s (region w a n)))) where
-    index_hit : (r : Bool) → k < n → r ≡ same (text_at s (get_or w (a + k) 0)) t → r ≡ true → k ≡ m
+    pub index_hit : (r : Bool) → k < n → r ≡ same (text_at s (get_or w (a + k) 0)) t → r ≡ true → k ≡ m
     unfolding index_of
     index_hit r h q y = sym (v ∙ rw (texts_next h, ← q, y) (add-zero k))
 
@@ -334,7 +334,7 @@ module _ (s t : Text) (w : List ℕ) (a n k : ℕ) (room : a + n ≤ length w) w
     unfolding index_of
     index_miss r h q y = v ∙ rw (texts_next h, ← q, y) (omega arith)
 
-    index_none : n ≤ k → k ≡ m
+    pub index_none : n ≤ k → k ≡ m
     unfolding index_of
     index_none h =
         let l : length (texts_at s (region w a n)) ≤ k = rw (texts_length s (region w a n), region_length w a n room) h in

@@ -492,12 +492,12 @@ unfolding records_at
 records_set s n w i x = ap (λ (l : List ℕ). map (record_at s) l) (take_set (least n most_kept) w i x) ∙ map_set (record_at s) (take (least n most_kept) w) i x
 
 module _ (w : List ℕ) (f : Fits w) (n : ℕ) (e : n ≡ get_or w 3708 0) where
-  guard_none : n ≡ 0 → Guarded w w
+  pub guard_none : n ≡ 0 → Guarded w w
   unfolding ledger_at marked
   guard_none z = record { ledger = λ s. rw (← e, z); fits = f }
 
   -- it has no room
-  guard_past : 3600 < n → Guarded w w
+  pub guard_past : 3600 < n → Guarded w w
   unfolding ledger_at marked records_at
   guard_past h = record { ledger = λ s. rw (← e, ne_eqb n 0 (λ z. omega arith), set_out (records_at s (get_or w 3700 0) w) (n - 1) (record_at s 2) (long s)); fits = f }
     where

@@ -88,7 +88,7 @@ pub value_less : (s : Text) (n : ℕ) (l : Letter) → Ok l ≡ read_as letter (
 value_less s n l g = read_less letter_of s n letter_leaves letter_less l.next (as_well letter_of s n letter (λ z. z.next) l (letter_there letter s n (Ok l) g))
 
 -- ---- steps
-name_text : (x : Text) → Accepts (λ n r. n ≡ front is_name_byte x) (name x)
+pub name_text : (x : Text) → Accepts (λ n r. n ≡ front is_name_byte x) (name x)
 unfolding name
 name_text x = ok_whether _ _ _ x (λ e. accepted refl) (λ e. refused)
 
