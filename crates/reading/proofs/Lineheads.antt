@@ -14,13 +14,13 @@ use Rattle.text.specs.Texts.{Text, bytes, tab, newline, part, same, all, starts_
 use Rattle.text.specs.Lines.{lines_of, to_field_end}
 use Rattle.listings.specs.Records.{Named, alone, with_field, record_named}
 use Rattle.listings.specs.Heads.{head_of_part, head_of}
-use Rattle.entries.specs.Tables.{Tables, record_with}
+use Rattle.entries.specs.Tables.{Tables}
 use Rattle.reading.specs.Fillings.{Lining, bad, line_with, line_from, LineOutcome}
+use Rattle.reading.specs.Cuts.{kind_in, from_in}
 use Rattle.listings.specs.declared.records.Kind.{Kind}
 use Rattle.listings.specs.declared.records.Kind.TheVariants.{Role, Constraint, Allow, Collection, Pattern, Method, Omit, End}
 use Rattle.listings.specs.declared.answers.Fault.{Fault}
 use Rattle.std.specs.Prelude.{Option, Some, None, Result, Err}
-use mathlib.Core.Option.{some}
 use Rattle.listings.specs.declared.records.Headed.{Headed}
 use Rattle.reading.specs.declared.reader.Cursor.{Cursor}
 use Rattle.reading.specs.declared.reader.Lined.{Lined}
@@ -206,16 +206,8 @@ begun_unknown s at h m o p l r c y z = record {
 }
 
 -- ---- the head's ladder
-abbrev size_of : Option Headed → ℕ
-size_of None = 0
-size_of (Some d) = d.size
-
-abbrev named_of : Option Headed → Named
-named_of None = None
-named_of (Some d) = Some d.kind
-
 abbrev BegunBy : Text → ℕ → Option Headed → Type 0
-BegunBy s at d = Begun s at (at + size_of d) (named_of d)
+BegunBy s at d = Begun s at (from_in at d) (kind_in d)
 
 begun_by : (s : Text) (at : ℕ) (b : Bool) (x y : Option Headed) → (b ≡ true → BegunBy s at x) → (b ≡ false → BegunBy s at y) → BegunBy s at (cond b x y)
 begun_by s at true x y h k = h refl
@@ -232,7 +224,7 @@ begun s at h =
     (λ r. begun_by s at _ _ _ (begun_tab s at (bytes "constraint") Constraint 11 (field_is _ refl) refl refl)
     (λ c. begun_by s at _ _ _ (begun_newline s at (bytes "collection") Collection 10 h (field_is _ refl) refl refl)
     (λ y. begun_by s at _ _ _ (begun_newline s at (bytes "end") End 3 h (field_is _ refl) refl refl)
-    (λ z. rw (add-zero at) (begun_unknown s at h m o p l r c y z)))))))))
+    (λ z. begun_unknown s at h m o p l r c y z))))))))
 
 -- ---- the line at the cursor, by its head and where its field ends
 module _ (s : Text) (c : Cursor) (T : Tables) (h : c.at < length s) (w : List ℕ) where
@@ -243,20 +235,20 @@ module _ (s : Text) (c : Cursor) (T : Tables) (h : c.at < length s) (w : List �
   pub head_none : head_of (drop c.at s) ≡ None → LineOutcome s c due (Err BadForm) w
   head_none q = line_bad s c due BadForm w (how (dec_lt e (length s)) (eqb (get_or s e 0) 10) refl)
     where
-      begins : Begun s c.at (c.at + 0) None
+      begins : Begun s c.at c.at None
       begins = subst (BegunBy s c.at) q (begun s c.at h)
 
       e : ℕ
-      e = c.at + 0 + to_field_end (drop (c.at + 0) s)
+      e = c.at + to_field_end (drop c.at s)
 
       how : Dec (e < length s) → (b : Bool) → eqb (get_or s e 0) 10 ≡ b → due ≡ bad BadForm
       how (no i) b j = begins.unended T e refl (omega arith)
       how (yes i) true j = begins.whole T e refl i (eqb-true (get_or s e 0) 10 j)
       how (yes i) false j = begins.tabbed T e refl i (eqb-false (get_or s e 0) 10 j)
 
-  module _ (d : Headed) (e : ℕ) (q : head_of (drop c.at s) ≡ Some d) (k : e ≡ c.at + d.size + to_field_end (drop (c.at + d.size) s)) where
-    begins : Begun s c.at (c.at + d.size) (Some d.kind)
-    begins = subst (BegunBy s c.at) q (begun s c.at h)
+  module _ (d : Option Headed) (e : ℕ) (q : d ≡ head_of (drop c.at s)) (k : e ≡ from_in c.at d + to_field_end (drop (from_in c.at d) s)) where
+    begins : BegunBy s c.at d
+    begins = subst (BegunBy s c.at) (sym q) (begun s c.at h)
 
     pub head_unended : length s ≤ e → LineOutcome s c due (Err BadForm) w
     head_unended g = line_bad s c due BadForm w (begins.unended T e k g)
@@ -265,6 +257,6 @@ module _ (s : Text) (c : Cursor) (T : Tables) (h : c.at < length s) (w : List �
     head_tabbed g m = line_bad s c due BadForm w (begins.tabbed T e k g m)
 
     pub head_whole : (r : Result Lined Fault) → e < length s → get_or s e 0 ≡ 10
-        → LineOutcome s c (line_with T (some (record_with d.kind (part (c.at + d.size) e s))) (lines_of (drop (e + 1) s))) r w
+        → LineOutcome s c (line_with T (record_named (kind_in d) (part (from_in c.at d) e s)) (lines_of (drop (e + 1) s))) r w
         → LineOutcome s c due r w
     head_whole r g z o = line_by s c due _ r w (begins.whole T e k g z) o

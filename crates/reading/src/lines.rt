@@ -8,11 +8,12 @@ use listings::records;
 use listings::records::Kind;
 use text::texts;
 
-// A whole line, cut: the record that it names, and its field.
+// A line, cut: the record that it names, its field, and whether a byte 10 stands behind that.
 #[derive(Clone, Copy)]
 pub struct Cut {
-    pub kind: Kind,
+    pub kind: Option<Kind>,
     pub field: Span,
+    pub whole: bool,
 }
 
 // Whether a byte 10 stands at e.
@@ -22,23 +23,23 @@ pub fn ends_at(text: &[u8], e: usize) -> bool
     e < text.len() && text[e] == b'\n'
 }
 
-// The line at an offset of the text; none where it names no record, or no byte 10 stands behind it.
-pub fn cut_at(text: &[u8], at: usize) -> Option<Cut>
+// The line at an offset of the text. Where it names no record, its field begins with it.
+pub fn cut_at(text: &[u8], at: usize) -> Cut
     requires { at < length text.now }
     ensures { result ≡ cut_of text.now at }
 {
-    let head = records::head(&text[at..])?;
-    let from = at + head.size;
+    let (kind, from) = match records::head(&text[at..]) {
+        Some(head) => (Some(head.kind), at + head.size),
+        None => (None, at),
+    };
     let field = texts::scan(text, from);
-    if !ends_at(text, field.end) {
-        return None;
-    }
-    Some(Cut {
-        kind: head.kind,
+    Cut {
+        kind,
         field: Span {
             from,
             end: field.end,
             clean: field.clean,
         },
-    })
+        whole: ends_at(text, field.end),
+    }
 }

@@ -3,13 +3,13 @@ ghost use Rattle.std.specs.Prelude.{◌≡◌, ◌+◌, ◌≤◌, ◌<◌, leng
 ghost use Rattle.text.specs.Texts.{bytes, all, part, starts_with};
 ghost use Rattle.text.specs.Bytes.{is_text};
 ghost use Rattle.text.specs.Lines.{lines_of};
-ghost use Rattle.std.proofs.Math.Option.{some};
+ghost use Rattle.listings.specs.Records.{record_named};
 ghost use Rattle.listings.specs.Refusals.{reading_of};
 ghost use Rattle.reading.specs.Outcomes.{report_of, ReadOutcome};
 ghost use Rattle.worktable.specs.Work.{zeroed};
 ghost use Rattle.limits.specs.Limits.{most_bytes};
 ghost use Rattle.entries.specs.Room.{listing_room};
-ghost use Rattle.entries.specs.Tables.{Fits, Field, tables_at, start_tables, record_with};
+ghost use Rattle.entries.specs.Tables.{Fits, Field, tables_at, start_tables};
 ghost use Rattle.reading.specs.Fillings.{LineEnd, LineOutcome, FillOutcome, line_with, line_from, fill_from, closed_at};
 ghost use Rattle.reading.specs.Readers.{Ready, gone_first};
 ghost use Rattle.reading.specs.Holds.{LoadOutcome, reading_shown};
@@ -68,14 +68,17 @@ impl Cursor {
     }
 }
 
-// A whole line, cut.
+// A line, cut, behind whose field a byte 10 stands.
 pub fn line_named(s: &[u8], w: &mut [u32], t: Tally, c: Cursor, cut: Cut) -> Result<Lined, Fault>
     requires { Field s.now t w.old cut.field.from cut.field.end × ((cut.field.clean ≡ all is_text (part cut.field.from cut.field.end s.now)) × LineEnd s.now c cut.field.end) }
-    ensures { LineOutcome s.now c (line_with (tables_at s.now t w.old) (some (record_with cut.kind (part cut.field.from cut.field.end s.now))) (lines_of (drop (cut.field.end + 1) s.now))) result w.new }
+    ensures { LineOutcome s.now c (line_with (tables_at s.now t w.old) (record_named cut.kind (part cut.field.from cut.field.end s.now)) (lines_of (drop (cut.field.end + 1) s.now))) result w.new }
 {
-    let u = steps::step(s, w, t, cut.kind, cut.field)?;
+    let Some(kind) = cut.kind else {
+        return Err(Fault::BadForm);
+    };
+    let u = steps::step(s, w, t, kind, cut.field)?;
     let d = c.past(cut.field.end);
-    if cut.kind == Kind::End {
+    if kind == Kind::End {
         return Ok(Lined::Ended(u, d));
     }
     Ok(Lined::Moved(u, d))
@@ -86,9 +89,10 @@ pub fn line(s: &[u8], w: &mut [u32], t: Tally, c: Cursor) -> Result<Lined, Fault
     requires { Fits s.now t w.old × ((c.at < length s.now) × (c.line ≤ 100000)) }
     ensures { LineOutcome s.now c (line_from (tables_at s.now t w.old) (lines_of (drop c.at s.now))) result w.new }
 {
-    let Some(cut) = lines::cut_at(s, c.at) else {
+    let cut = lines::cut_at(s, c.at);
+    if !cut.whole {
         return Err(Fault::BadForm);
-    };
+    }
     line_named(s, w, t, c, cut)
 }
 
