@@ -2,18 +2,17 @@
 use mathlib.Core.Path.{◌≡◌, refl, sym, ap, ◌∙◌}
 use mathlib.Core.Bool.{Bool, true, false, cond, ◌||◌}
 use mathlib.Core.List.{[], ◌∷◌, ◌++◌}
-use Prim.Native.Nat.{ℕ, suc, ◌-◌, ◌≤◌, ◌<◌}
+use Prim.Native.Nat.{ℕ, suc, ◌+◌, ◌-◌, ◌≤◌, ◌<◌}
 use native.Mathlib.Omega.{arith}
 use lib.ListN.{length, take, drop, get_or, take-append-drop}
 use lib.Seq.{drop-length, drop-cons}
 use lib.Dec.{eqb}
 use borrow.Author.Tests.{ne_eqb}
-use Rattle.std.specs.Prelude.{Some, None, is_some, unwrap_or, ◌+◌, Option as Optional}
 use Rattle.text.specs.Texts.{Text, slash, dot, has}
-use Rattle.text.proofs.Truths.{never}
 use Rattle.decisions.specs.Matching.{after_last_or, after_last, last_segment}
 use Rattle.decisions.proofs.Lasts.{last_none, last_behind, has_middle}
 use Rattle.matching.specs.Strengths.{Ends}
+use Rattle.matching.specs.declared.Ending.TheVariants.{Extension, Segment}
 
 -- ---- what follows the last b
 -- where all ends with a text without one, what follows the last does too
@@ -32,15 +31,6 @@ last_ends b keep (x ∷ xs) t h =
 has_other : (b x : ℕ) (t : Text) → (x ≡ b → ⊥) → has b (x ∷ t) ≡ has b t
 unfolding has
 has_other b x t n = ap (λ (c : Bool). c || has b t) (ne_eqb b x (λ e. n (sym e)))
-
--- ---- the offset that is answered
--- it is the one behind the byte at at - 1
-some_at : (at : ℕ) → 0 < at → (k : ℕ) → ◌≡◌ {A = Optional ℕ} (Some (at - 1 + 1)) (Some k) → at ≡ k
-some_at at h k e = let z : at - 1 + 1 ≡ k = ap (λ (o : Optional ℕ). unwrap_or o 0) e in omega arith
-
--- there is none
-none_at : (k : ℕ) → ◌≡◌ {A = Optional ℕ} None (Some k) → ⊥
-none_at k e = never false (ap (λ (o : Optional ℕ). is_some o) e) refl
 
 -- ---- the loop
 -- the path has no `.` and no `/` from the offset on
@@ -71,33 +61,34 @@ module _ (path : Text) (at : ℕ) (v : PlainFrom path at) where
       other b n e = ap (has b) (before h) ∙ has_other b (get_or path (at - 1) 0) (drop at path) n ∙ e
 
   -- it is a `.`: what follows is the extension
-  pub ends_dotted : 0 < at → get_or path (at - 1) 0 ≡ 46 → Ends path (Some (at - 1 + 1))
+  pub ends_dotted : 0 < at → get_or path (at - 1) 0 ≡ 46 → Ends path (Extension (at - 1 + 1))
   ends_dotted h e =
       let u : Text = take (at - 1) path in
       let r = last_ends slash u u (dot ∷ drop at path) (has_other slash dot (drop at path) (λ q. omega arith) ∙ v.no_slash) in
       let segment : last_segment path ≡ r.0 ++ dot ∷ drop at path = ap (λ (p : Text). last_segment p) (cut dot h e) ∙ r.1 in
+      let z : at - 1 + 1 ≡ at = omega arith in
       record {
         dotted = sym (ap (has dot) segment ∙ has_middle dot r.0 (drop at path));
-        behind = λ k e. rw (← some_at at h k e) (sym (ap (after_last dot) segment ∙ last_behind dot (r.0 ++ dot ∷ drop at path) r.0 (drop at path) v.no_dot));
-        within = λ k e. rw (← some_at at h k e) v.within;
+        behind = ap (λ (k : ℕ). drop k path) z ∙ sym (ap (after_last dot) segment ∙ last_behind dot (r.0 ++ dot ∷ drop at path) r.0 (drop at path) v.no_dot);
+        within = omega (arith, v.within);
       }
 
   -- where the last segment begins at the offset, it has no `.`
-  segment_plain : last_segment path ≡ drop at path → Ends path None
-  segment_plain segment = record {
+  segment_plain : (k : ℕ) → k ≡ at → last_segment path ≡ drop at path → Ends path (Segment k)
+  segment_plain k e segment = record {
     dotted = sym (ap (has dot) segment ∙ v.no_dot);
-    behind = λ k e. absurd (none_at k e);
-    within = λ k e. absurd (none_at k e);
+    behind = ap (λ (i : ℕ). drop i path) e ∙ sym (ap (after_last dot) segment ∙ last_none dot (drop at path) (drop at path) v.no_dot);
+    within = omega (arith, v.within);
   }
 
   -- as where the byte is a `/`
-  pub ends_plain : 0 < at → get_or path (at - 1) 0 ≡ 47 → Ends path None
+  pub ends_plain : 0 < at → get_or path (at - 1) 0 ≡ 47 → Ends path (Segment (at - 1 + 1))
   ends_plain h e =
       let u : Text = take (at - 1) path in
-      segment_plain (ap (λ (p : Text). last_segment p) (cut slash h e) ∙ last_behind slash (u ++ slash ∷ drop at path) u (drop at path) v.no_slash)
+      segment_plain (at - 1 + 1) (omega arith) (ap (λ (p : Text). last_segment p) (cut slash h e) ∙ last_behind slash (u ++ slash ∷ drop at path) u (drop at path) v.no_slash)
 
   -- or where there is none: the path is one segment
-  pub ends_whole : at ≤ 0 → Ends path None
+  pub ends_whole : at ≤ 0 → Ends path (Segment 0)
   ends_whole h =
       let z : at ≡ 0 = omega arith in
-      segment_plain (last_none slash path path (rw z at v.no_slash) ∙ ap (λ (i : ℕ). drop i path) (sym z))
+      segment_plain 0 (sym z) (last_none slash path path (rw z at v.no_slash) ∙ ap (λ (i : ℕ). drop i path) (sym z))

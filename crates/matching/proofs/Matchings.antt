@@ -6,15 +6,16 @@ use Prim.Native.Nat.{ℕ, ◌+◌, ◌-◌, ◌≤◌, ◌<◌}
 use lib.ListN.{length, take, drop, get_or}
 use lib.Seq.{take_all}
 use lib.Dec.{eqb, eqb-suc-zero}
-use Rattle.std.specs.Prelude.{Some, None, is_some, Option as Optional}
 use Rattle.std.specs.Cmp.Lexicographic.{pointwise}
 use Rattle.text.specs.Texts.{Text, bytes, slash, dot, same, starts_with, ends_with, part, run}
 use Rattle.names.specs.Patterns.{PatternKind, exact, prefix, extension, default, unpermitted, is_extension, kind_of}
 use Rattle.text.proofs.Truths.{eqb_swap}
 use Rattle.text.proofs.Spans.{from_on, stripped, stripped_end}
 use Rattle.decisions.specs.Matching.{after_last, last_segment, has_extension, is_under, kind_matches}
-use Rattle.matching.specs.Strengths.{Ends, kind_strength, strength, rooted_strength, starred_strength, start_leading, lead, leading}
+use Rattle.matching.specs.Strengths.{has_dot, offset_of, Ends, kind_strength, strength, rooted_strength, starred_strength, start_leading, lead, leading}
 use Rattle.matching.specs.declared.Leading.{Leading}
+use Rattle.matching.specs.declared.Ending.{Ending}
+use Rattle.matching.specs.declared.Ending.TheVariants.{Extension, Segment}
 use Rattle.text.proofs.Indices.{run_step}
 
 -- ---- P or below P
@@ -64,10 +65,10 @@ empty_length [] = refl
 empty_length (x ∷ xs) = sym (eqb-suc-zero (length xs))
 
 -- the last segment has no `.`
-pub starred_plain : (t path : Text) (x : Optional ℕ) → Ends path x → x ≡ None → 0 ≡ starred_strength t path
+pub starred_plain : (t path : Text) (x : Ending) (at : ℕ) → Ends path x → x ≡ Segment at → 0 ≡ starred_strength t path
 unfolding starred_strength has_extension
-starred_plain t path x v e =
-    rw (sym v.dotted ∙ ap (λ (y : Optional ℕ). is_some y) e) (sym (none_either (starred t)))
+starred_plain t path x at v e =
+    rw (sym v.dotted ∙ ap has_dot e) (sym (none_either (starred t)))
   where
     starred : Text → Bool
     starred t = starts_with (bytes "*.") t && is_extension (drop 2 t)
@@ -82,13 +83,13 @@ unfolding starred_strength
 starred_other t path e = rw (sym (stripped (bytes "*.") t) ∙ e)
 
 -- test by test, in the code's order: first whether what follows the path's last `.` is what follows `*.`, then whether that is an extension
-pub starred_is : (t path e : Text) (x : Optional ℕ) (at z : ℕ) → Ends path x → x ≡ Some at → pointwise eqb (take 2 t) (bytes "*.") ≡ true → e ≡ drop 2 t
+pub starred_is : (t path e : Text) (x : Ending) (at z : ℕ) → Ends path x → x ≡ Extension at → pointwise eqb (take 2 t) (bytes "*.") ≡ true → e ≡ drop 2 t
     → z ≡ cond (same (part at (length path) path) e) (cond (is_extension e) 2 0) 0
     → z ≡ starred_strength t path
 unfolding starred_strength has_extension
 starred_is t path e x at z v s b d q =
     q
-    ∙ rw (d, from_on at path, v.behind at s, sym v.dotted ∙ ap (λ (y : Optional ℕ). is_some y) s, sym (stripped (bytes "*.") t) ∙ b)
+    ∙ rw (d, from_on at path, sym (ap (λ (y : Ending). drop (offset_of y) path) s) ∙ v.behind, sym v.dotted ∙ ap has_dot s, sym (stripped (bytes "*.") t) ∙ b)
     (go (same (after_last dot (last_segment path)) (drop 2 t)) (is_extension (drop 2 t)))
   where
     go : (c d : Bool) → ◌≡◌ {A = ℕ} (cond c (cond d 2 0) 0) (cond d (cond c 2 0) 0)

@@ -1,11 +1,12 @@
 -- The best match by a number for each pattern text, and by the number of its line: for the proofs alone, which show that it is Matching's.
-use Rattle.std.specs.Prelude.{ℕ, ◌+◌, ◌-◌, ◌≤◌, ◌≡◌, cond, ◌&&◌, List, length, take, drop, eqb, ltb, Some, is_some}
-use Rattle.std.specs.Prelude.{Option as Optional}
+use Rattle.std.specs.Prelude.{ℕ, ◌+◌, ◌-◌, ◌≤◌, ◌≡◌, Bool, true, false, cond, ◌&&◌, List, length, take, drop, eqb, ltb}
 use Rattle.std.proofs.Math.Option.{Option, none, some}
 use Rattle.text.specs.Texts.{Text, bytes, dot, same, has, starts_with, ends_with, run}
 use Rattle.names.specs.Patterns.{PatternKind, exact, prefix, extension, default, unpermitted, is_extension, kind_of}
 use Rattle.decisions.specs.Matching.{after_last, last_segment, has_extension, is_under, kind_matches, matches}
 use Rattle.matching.specs.declared.Leading.{Leading}
+use Rattle.matching.specs.declared.Ending.{Ending}
+use Rattle.matching.specs.declared.Ending.TheVariants.{Extension, Segment}
 
 -- the better kind has the greater number, the patterns' texts having 255 bytes at most
 abbrev pub kind_strength : PatternKind → ℕ
@@ -33,11 +34,20 @@ unfoldable pub starred_strength : Text → Text → ℕ
 unfolding starts_with is_extension has_extension
 starred_strength t path = cond (starts_with (bytes "*.") t && is_extension (drop 2 t)) (cond (has_extension (drop 2 t) path) 2 0) 0
 
--- x is how the path ends: the offset of what follows the last `.` of its last segment, or nothing where that has none
-pub record Ends (path : Text) (x : Optional ℕ) : Type 0 where
-  pub dotted : is_some x ≡ has dot (last_segment path)
-  pub behind : (at : ℕ) → x ≡ Some at → drop at path ≡ after_last dot (last_segment path)
-  pub within : (at : ℕ) → x ≡ Some at → at ≤ length path
+-- an ending tells of a `.`, and has an offset in any case
+abbrev pub has_dot : Ending → Bool
+has_dot (Extension at) = true
+has_dot (Segment at) = false
+
+abbrev pub offset_of : Ending → ℕ
+offset_of (Extension at) = at
+offset_of (Segment at) = at
+
+-- x is how the path ends: whether its last segment has a `.`, and the offset of what follows the last one, or of the segment where it has none
+pub record Ends (path : Text) (x : Ending) : Type 0 where
+  pub dotted : has_dot x ≡ has dot (last_segment path)
+  pub behind : drop (offset_of x) path ≡ after_last dot (last_segment path)
+  pub within : offset_of x ≤ length path
 
 -- while the pattern texts are gone through: how many are, the line of the first of the strongest, and its strength, 0 where none matches
 abbrev pub start_leading : Leading

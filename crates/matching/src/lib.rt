@@ -41,18 +41,25 @@ pub fn drop_into(out: &mut [u8], path: &[u8]) -> usize
     n
 }
 
-// How a path ends: the offset of what follows the last '.' of its last segment, or nothing where that has none. It is sought from the end.
-pub fn ending_of(path: &[u8]) -> Option<usize>
+// How a path ends: the offset of what follows the last '.' of its last segment, or of that segment where it has none.
+#[derive(Clone, Copy)]
+pub enum Ending {
+    Extension(usize),
+    Segment(usize),
+}
+
+// The ending of a path, sought from its end.
+pub fn ending_of(path: &[u8]) -> Ending
     ensures { Ends path.now result }
 {
     for i in (0..path.len()).rev() {
         match path[i] {
-            b'.' => return Some(i + 1),
-            b'/' => return None,
+            b'.' => return Ending::Extension(i + 1),
+            b'/' => return Ending::Segment(i + 1),
             _ => {}
         }
     }
-    None
+    Ending::Segment(0)
 }
 
 // Whether the path is p, or starts with p followed by '/'.
@@ -81,11 +88,11 @@ pub fn rooted_strength(t: &[u8], path: &[u8]) -> u32
 }
 
 // How strongly a pattern text that is not empty and does not start with '/' matches the path, whose ending is x.
-pub fn starred_strength(t: &[u8], path: &[u8], x: Option<usize>) -> u32
+pub fn starred_strength(t: &[u8], path: &[u8], x: Ending) -> u32
     requires { Ends path.now x }
     ensures { result ≡ starred_strength t.now path.now }
 {
-    let Some(at) = x else {
+    let Ending::Extension(at) = x else {
         return 0;
     };
     let Some(e) = t.strip_prefix(b"*.") else {
@@ -100,7 +107,7 @@ pub fn starred_strength(t: &[u8], path: &[u8], x: Option<usize>) -> u32
 // How strongly a pattern text matches the path, whose ending is x: 0 not at all, 1 as the default, 2 by extension, 3 and more by a
 // prefix, the longer the stronger, 1,000 exactly.
 // Kept: the numbers are what `strength`, `kind_strength` and `kind_strength_lem` speak of, and `numbers` and `grants` with them.
-pub fn strength_of(t: &[u8], path: &[u8], x: Option<usize>) -> u32
+pub fn strength_of(t: &[u8], path: &[u8], x: Ending) -> u32
     requires { (length t.now ≤ 255) × Ends path.now x }
     ensures { result ≡ strength t.now path.now }
 {
@@ -144,7 +151,7 @@ impl Leading {
 
 // The choice with one pattern more, for a path whose ending is e.
 #[tactic(auto, unfolding(crate::specs::Strengths::lead))]
-pub fn lead_with(x: Leading, p: &[u8], path: &[u8], e: Option<usize>) -> Leading
+pub fn lead_with(x: Leading, p: &[u8], path: &[u8], e: Ending) -> Leading
     requires { (x.seen < 1000) × ((length p.now ≤ 255) × Ends path.now e) }
     ensures { result ≡ lead path.now x p.now }
 {

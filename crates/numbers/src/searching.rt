@@ -10,7 +10,7 @@ ghost use Rattle.grants.specs.Scratch.{stem_strength, leading_by, best_number};
 ghost use Rattle.numbers.specs.Stemming.{line_among, is_firm_text, Findable, Lacking};
 
 use deciding::joining;
-use matching::Leading;
+use matching::{Ending, Leading};
 use reading::held::View;
 use text::texts;
 
@@ -74,7 +74,7 @@ pub fn above_strength(p: &[u8], u: &[u8]) -> u32
 }
 
 // How strong u, another text, is at the path of an exact one, whose ending is x.
-pub fn exact_strength(u: &[u8], path: &[u8], x: Option<usize>) -> u32
+pub fn exact_strength(u: &[u8], path: &[u8], x: Ending) -> u32
     requires { ((length u.now ≤ 255) × Ends path.now x) × ((same u.now path.now ≡ false) × (same path.now (bytes "/") ≡ false)) }
     ensures { result ≡ stem_strength (exact path.now) u.now }
 {

@@ -12,11 +12,11 @@ pub returns-in_default-strip_prefix : goal.returns-in_default-strip_prefix
 returns-in_default-strip_prefix c = search (rules, starred_other)
 
 pub returns-then-is_extension : goal.returns-then-is_extension
-returns-then-is_extension c = starred_is _ _ _ _ _ _ c.requires c.in-Some.is c.in-Some-strip_prefix.ensures.cases.0 c.in-Some-strip_prefix.ensures.cases.1 (search (rules, ladder))
+returns-then-is_extension c = starred_is _ _ _ _ _ _ c.requires c.in-Extension.is c.in-Some.ensures.cases.0 c.in-Some.ensures.cases.1 (search (rules, ladder))
 
 pub returns : goal.returns
 returns c =
     elim c.else-are_same.branch [
-      | else-are_same-via-then-are_same+else-is_extension w ↦ starred_is _ _ _ _ _ _ c.requires c.in-Some.is c.in-Some-strip_prefix.ensures.cases.0 c.in-Some-strip_prefix.ensures.cases.1 (search (rules, ladder))
-      | else-are_same-via-else-are_same w ↦ starred_is _ _ _ _ _ _ c.requires c.in-Some.is c.in-Some-strip_prefix.ensures.cases.0 c.in-Some-strip_prefix.ensures.cases.1 (search (rules, ladder))
+      | else-are_same-via-then-are_same+else-is_extension w ↦ starred_is _ _ _ _ _ _ c.requires c.in-Extension.is c.in-Some.ensures.cases.0 c.in-Some.ensures.cases.1 (search (rules, ladder))
+      | else-are_same-via-else-are_same w ↦ starred_is _ _ _ _ _ _ c.requires c.in-Extension.is c.in-Some.ensures.cases.0 c.in-Some.ensures.cases.1 (search (rules, ladder))
     ]
