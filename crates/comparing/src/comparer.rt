@@ -20,9 +20,9 @@ use walks::walking;
 use walks::walking::Hit;
 
 // The answer that a hit is, where the filler's number is n.
-pub fn tell<'a>(
-    old: &View<'a>,
-    new: &View<'a>,
+pub fn tell<'s, 'w>(
+    old: &View<'s, 'w>,
+    new: &View<'s, 'w>,
     x: &[u32],
     n: usize,
     h: Option<Hit>,
@@ -39,9 +39,9 @@ pub fn tell<'a>(
 }
 
 // The answer of two views once their texts are numbers in the scratch: what the walk finds.
-pub fn compare_numbers<'a>(
-    old: &View<'a>,
-    new: &View<'a>,
+pub fn compare_numbers<'s, 'w>(
+    old: &View<'s, 'w>,
+    new: &View<'s, 'w>,
     x: &[u32],
     n: usize,
     c: Counts,
@@ -56,11 +56,11 @@ pub fn compare_numbers<'a>(
 }
 
 // The listings s and t, whose views these are; x is the scratch.
-pub fn compare_held<'a>(
+pub fn compare_held<'s, 'w>(
     s: &[u8],
     t: &[u8],
-    old: &View<'a>,
-    new: &View<'a>,
+    old: &View<'s, 'w>,
+    new: &View<'s, 'w>,
     x: &mut [u32],
     answer: &mut [u8],
 ) -> Comparison

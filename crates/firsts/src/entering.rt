@@ -10,7 +10,13 @@ use reading::held::View;
 pub const FIRSTS: usize = 1666;
 
 // Whether line i has the text, which shares x bytes with it.
-pub fn is_same<'a>(old: &View<'a>, new: &View<'a>, text: &[u8], i: usize, x: usize) -> bool
+pub fn is_same<'s, 'w>(
+    old: &View<'s, 'w>,
+    new: &View<'s, 'w>,
+    text: &[u8],
+    i: usize,
+    x: usize,
+) -> bool
     requires { Compared old.now new.now text.now i x }
     ensures { result ≡ same (get_or (lines_in old.now new.now) i []) text.now }
 {
@@ -18,7 +24,13 @@ pub fn is_same<'a>(old: &View<'a>, new: &View<'a>, text: &[u8], i: usize, x: usi
 }
 
 // What a text shares with line i is entered; whether the line has the text.
-pub fn share_line<'a>(old: &View<'a>, new: &View<'a>, w: &mut [u32], text: &[u8], i: usize) -> bool
+pub fn share_line<'s, 'w>(
+    old: &View<'s, 'w>,
+    new: &View<'s, 'w>,
+    w: &mut [u32],
+    text: &[u8],
+    i: usize,
+) -> bool
     requires { Sharing old.now new.now text.now i w.old }
     ensures { ShareEntered text.now (lines_in old.now new.now) i w.old w.new result }
 {
@@ -29,7 +41,7 @@ pub fn share_line<'a>(old: &View<'a>, new: &View<'a>, w: &mut [u32], text: &[u8]
 }
 
 // The first line with the text of line j. What that shares with the lines up to there is entered.
-pub fn first_of<'a>(old: &View<'a>, new: &View<'a>, w: &mut [u32], j: usize) -> usize
+pub fn first_of<'s, 'w>(old: &View<'s, 'w>, new: &View<'s, 'w>, w: &mut [u32], j: usize) -> usize
     requires { Enterable old.now new.now j w.old }
     ensures { FirstFound (lines_in old.now new.now) j w.old w.new result }
 {
@@ -82,7 +94,7 @@ pub fn near_of(w: &[u32], j: usize, f: usize) -> usize
 }
 
 // Line j is entered.
-pub fn enter<'a>(old: &View<'a>, new: &View<'a>, w: &mut [u32], j: usize)
+pub fn enter<'s, 'w>(old: &View<'s, 'w>, new: &View<'s, 'w>, w: &mut [u32], j: usize)
     requires { Enterable old.now new.now j w.old }
     ensures { Entered (lines_in old.now new.now) j w.old w.new }
 {
@@ -92,7 +104,7 @@ pub fn enter<'a>(old: &View<'a>, new: &View<'a>, w: &mut [u32], j: usize)
 }
 
 // All lines of both, `count` of them.
-pub fn write_firsts<'a>(old: &View<'a>, new: &View<'a>, w: &mut [u32], count: usize)
+pub fn write_firsts<'s, 'w>(old: &View<'s, 'w>, new: &View<'s, 'w>, w: &mut [u32], count: usize)
     requires { Counted old.now new.now count w.old }
     ensures { FirstsWritten (lines_in old.now new.now) count w.old w.new }
 {

@@ -5,7 +5,7 @@ ghost use Rattle.firsts.specs.Shares.{lines_in};
 use reading::held::View;
 
 // The text of line j of both.
-pub fn line_text<'a>(old: &View<'a>, new: &View<'a>, j: usize) -> &'a [u8]
+pub fn line_text<'s, 'w>(old: &View<'s, 'w>, new: &View<'s, 'w>, j: usize) -> &'s [u8]
     requires { j < length (lines_in old.now new.now) }
     ensures { result.now ≡ get_or (lines_in old.now new.now) j [] }
 {

@@ -26,7 +26,13 @@ pub fn shared_from(t: &[u8], u: &[u8], from: usize) -> usize
 }
 
 // What a text shares with line i, where it is known for the lines before it.
-pub fn shared_with<'a>(old: &View<'a>, new: &View<'a>, w: &[u32], text: &[u8], i: usize) -> usize
+pub fn shared_with<'s, 'w>(
+    old: &View<'s, 'w>,
+    new: &View<'s, 'w>,
+    w: &[u32],
+    text: &[u8],
+    i: usize,
+) -> usize
     requires { Sharing old.now new.now text.now i w.now }
     ensures { result ≡ common text.now (get_or (lines_in old.now new.now) i []) }
 {

@@ -12,7 +12,7 @@ use grants::scratch::Counts;
 use reading::held::View;
 
 // The first line with each text; how many lines new has.
-pub fn write_firsts<'a>(old: &View<'a>, new: &View<'a>, w: &mut [u32]) -> usize
+pub fn write_firsts<'s, 'w>(old: &View<'s, 'w>, new: &View<'s, 'w>, w: &mut [u32]) -> usize
     requires { 2048 ≤ length w.old }
     ensures { FirstsStand old.now new.now result w.old w.new }
 {
@@ -23,7 +23,7 @@ pub fn write_firsts<'a>(old: &View<'a>, new: &View<'a>, w: &mut [u32]) -> usize
 }
 
 // The sides of old and new.
-pub fn write_sides<'a>(old: &View<'a>, new: &View<'a>, w: &mut [u32], n: usize)
+pub fn write_sides<'s, 'w>(old: &View<'s, 'w>, new: &View<'s, 'w>, w: &mut [u32], n: usize)
     requires { SidesLent old.now new.now n w.old }
     ensures { SidesWritten old.now new.now w.old w.new }
 {
@@ -33,7 +33,12 @@ pub fn write_sides<'a>(old: &View<'a>, new: &View<'a>, w: &mut [u32], n: usize)
 }
 
 // The sides and the trial methods; how many methods there are.
-pub fn write_tables<'a>(old: &View<'a>, new: &View<'a>, w: &mut [u32], n: usize) -> usize
+pub fn write_tables<'s, 'w>(
+    old: &View<'s, 'w>,
+    new: &View<'s, 'w>,
+    w: &mut [u32],
+    n: usize,
+) -> usize
     requires { SidesLent old.now new.now n w.old }
     ensures { TablesWritten old.now new.now w.old w.new result }
 {
@@ -42,7 +47,13 @@ pub fn write_tables<'a>(old: &View<'a>, new: &View<'a>, w: &mut [u32], n: usize)
 }
 
 // The stems behind m trial methods, and the counts of all.
-pub fn write_lines<'a>(old: &View<'a>, new: &View<'a>, w: &mut [u32], n: usize, m: usize) -> Counts
+pub fn write_lines<'s, 'w>(
+    old: &View<'s, 'w>,
+    new: &View<'s, 'w>,
+    w: &mut [u32],
+    n: usize,
+    m: usize,
+) -> Counts
     requires { SidesLent old.now new.now n w.old }
     ensures stems { AllStems (texts old.now) (texts new.now) w.old w.new }
     ensures counts { result ≡ counts_of old.now new.now m }
@@ -57,7 +68,7 @@ pub fn write_lines<'a>(old: &View<'a>, new: &View<'a>, w: &mut [u32], n: usize, 
 }
 
 // All else; new has n lines.
-pub fn write_rest<'a>(old: &View<'a>, new: &View<'a>, w: &mut [u32], n: usize) -> Counts
+pub fn write_rest<'s, 'w>(old: &View<'s, 'w>, new: &View<'s, 'w>, w: &mut [u32], n: usize) -> Counts
     requires { SidesLent old.now new.now n w.old }
     ensures { NumbersWritten old.now new.now w.old w.new result }
 {
@@ -66,7 +77,7 @@ pub fn write_rest<'a>(old: &View<'a>, new: &View<'a>, w: &mut [u32], n: usize) -
 }
 
 // All of it.
-pub fn write_numbers<'a>(old: &View<'a>, new: &View<'a>, w: &mut [u32]) -> Counts
+pub fn write_numbers<'s, 'w>(old: &View<'s, 'w>, new: &View<'s, 'w>, w: &mut [u32]) -> Counts
     requires { 2048 ≤ length w.old }
     ensures { NumbersWritten old.now new.now w.old w.new result }
 {
@@ -75,7 +86,7 @@ pub fn write_numbers<'a>(old: &View<'a>, new: &View<'a>, w: &mut [u32]) -> Count
 }
 
 // The scratch, which w begins with, is filled; all that stands behind stays.
-pub fn number<'a>(old: &View<'a>, new: &View<'a>, w: &mut [u32]) -> Counts
+pub fn number<'s, 'w>(old: &View<'s, 'w>, new: &View<'s, 'w>, w: &mut [u32]) -> Counts
     requires { 2048 ≤ length w.old }
     ensures numbers { Numbered old.now new.now (take 2048 w.new) result }
     ensures rest { drop 2048 w.new ≡ drop 2048 w.old }

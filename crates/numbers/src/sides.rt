@@ -147,7 +147,13 @@ pub fn fill_plain(view: &View, firsts: &[u32], w: &mut [u32], at: usize)
 }
 
 // The whole table of the view, with its roles in the numbers of new's.
-pub fn fill_side<'a>(new: &View<'a>, view: &View<'a>, firsts: &[u32], w: &mut [u32], at: usize)
+pub fn fill_side<'s, 'w>(
+    new: &View<'s, 'w>,
+    view: &View<'s, 'w>,
+    firsts: &[u32],
+    w: &mut [u32],
+    at: usize,
+)
     requires { GapsLent view.now firsts.now at 512 w.old }
     ensures { SideWritten new.now.roles view.now at w.old w.new }
 {

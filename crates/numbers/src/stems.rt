@@ -128,7 +128,13 @@ pub fn stem_of(old: &View, new: &View, text: &[u8], spot: Spot, last: Stem) -> S
 }
 
 // The stem of line j of both.
-pub fn stem_at<'a>(old: &View<'a>, new: &View<'a>, firsts: &[u32], last: Stem, j: usize) -> Stem
+pub fn stem_at<'s, 'w>(
+    old: &View<'s, 'w>,
+    new: &View<'s, 'w>,
+    firsts: &[u32],
+    last: Stem,
+    j: usize,
+) -> Stem
     requires { Stemmable old.now new.now firsts.now last j }
     ensures { StemOf (texts old.now) (texts new.now) j result }
 {
@@ -156,7 +162,13 @@ pub fn put_stem(w: &mut [u32], j: usize, x: Stem)
 }
 
 // The stems of all lines, `count` of them; the last stem stands behind them.
-pub fn fill_stems<'a>(old: &View<'a>, new: &View<'a>, w: &mut [u32], count: usize, last: Stem)
+pub fn fill_stems<'s, 'w>(
+    old: &View<'s, 'w>,
+    new: &View<'s, 'w>,
+    w: &mut [u32],
+    count: usize,
+    last: Stem,
+)
     requires { StemsLent old.now new.now count last w.old }
     ensures { StemsWritten (texts old.now) (texts new.now) count w.old w.new }
 {
@@ -179,7 +191,7 @@ pub fn last_stem(old: &View, new: &View) -> Stem
 }
 
 // All stems; there are `count` lines.
-pub fn write_stems<'a>(old: &View<'a>, new: &View<'a>, w: &mut [u32], count: usize)
+pub fn write_stems<'s, 'w>(old: &View<'s, 'w>, new: &View<'s, 'w>, w: &mut [u32], count: usize)
     requires { FirstsLent old.now new.now count w.old }
     ensures { AllStems (texts old.now) (texts new.now) w.old w.new }
 {

@@ -16,15 +16,16 @@ pub enum Access {
     ByRole(u64),
 }
 
-// A view, as the work table holds it: the lent text, the numbers that stand for it, and how much of each list is filled. In a clause it is the view alone.
+// A view, as the work table holds it: the text, lent for 's, the numbers that stand for it, lent for 'w, and how much of each list is filled.
+// A text that it hands out lives as long as 's, whatever becomes of the table. In a clause it is the view alone.
 #[derive(Drop)]
-pub struct View<'a> {
-    text: &'a [u8],
-    table: &'a [u32],
+pub struct View<'s, 'w> {
+    text: &'s [u8],
+    table: &'w [u32],
     tally: Tally,
 }
 
-impl<'a> Model for View<'a> {
+impl<'s, 'w> Model for View<'s, 'w> {
     ghost use Rattle.reading.specs.Views.{View, view_at};
     ghost use Rattle.reading.specs.Holds.{Holds};
 
@@ -35,9 +36,9 @@ impl<'a> Model for View<'a> {
     ghost invariant = { λ v. Holds v.text.now v.tally v.table.now };
 }
 
-impl<'a> View<'a> {
+impl<'s, 'w> View<'s, 'w> {
     // The view that a table holds.
-    pub fn new(text: &'a [u8], table: &'a [u32], tally: Tally) -> View<'a>
+    pub fn new(text: &'s [u8], table: &'w [u32], tally: Tally) -> View<'s, 'w>
         requires { Holds text.now tally table.now }
         ensures { result ≡ view_at text.now tally table.now }
     {
@@ -53,7 +54,7 @@ impl<'a> View<'a> {
     }
 
     // The text of `pattern` line k.
-    pub fn pattern(&self, k: usize) -> &'a [u8]
+    pub fn pattern(&self, k: usize) -> &'s [u8]
         requires { k < length (texts self.now) }
         ensures { result.now ≡ get_or (texts self.now) k [] }
     {
@@ -93,7 +94,7 @@ impl<'a> View<'a> {
     }
 
     // Role i, by first appearance.
-    pub fn role(&self, i: usize) -> &'a [u8]
+    pub fn role(&self, i: usize) -> &'s [u8]
         requires { i < length self.now.roles }
         ensures { result.now ≡ get_or self.now.roles i [] }
     {
@@ -120,7 +121,7 @@ impl<'a> View<'a> {
     }
 
     // Method i, by first appearance.
-    pub fn method(&self, i: usize) -> &'a [u8]
+    pub fn method(&self, i: usize) -> &'s [u8]
         requires { i < length self.now.methods }
         ensures { result.now ≡ get_or self.now.methods i [] }
     {

@@ -25,9 +25,9 @@ pub fn line_count(old: &View, new: &View) -> usize
 }
 
 // The path of stem j, where the filler's number is n; the offset behind it.
-pub fn put_stem<'a>(
-    old: &View<'a>,
-    new: &View<'a>,
+pub fn put_stem<'s, 'w>(
+    old: &View<'s, 'w>,
+    new: &View<'s, 'w>,
     n: usize,
     j: usize,
     out: &mut [u8],
@@ -44,9 +44,9 @@ pub fn put_stem<'a>(
 }
 
 // `.` and the extension of line e; nothing where there is none.
-pub fn put_ending<'a>(
-    old: &View<'a>,
-    new: &View<'a>,
+pub fn put_ending<'s, 'w>(
+    old: &View<'s, 'w>,
+    new: &View<'s, 'w>,
     e: Option<usize>,
     out: &mut [u8],
     at: usize,
@@ -95,9 +95,9 @@ pub fn put_caller(new: &View, c: usize, out: &mut [u8], at: usize) -> usize
 }
 
 // The path of a hit, where the filler's number is n; the offset behind it.
-pub fn put_path<'a>(
-    old: &View<'a>,
-    new: &View<'a>,
+pub fn put_path<'s, 'w>(
+    old: &View<'s, 'w>,
+    new: &View<'s, 'w>,
     w: &[u32],
     n: usize,
     f: Hit,
@@ -113,9 +113,9 @@ pub fn put_path<'a>(
 }
 
 // What the answer that shows a hit has before the method; the offset behind it.
-pub fn put_head<'a>(
-    old: &View<'a>,
-    new: &View<'a>,
+pub fn put_head<'s, 'w>(
+    old: &View<'s, 'w>,
+    new: &View<'s, 'w>,
     w: &[u32],
     n: usize,
     f: Hit,
@@ -143,9 +143,9 @@ pub fn put_tail(old: &View, new: &View, w: &[u32], f: Hit, out: &mut [u8], at: u
 }
 
 // The answer that shows a hit; its length.
-pub fn put_wider<'a>(
-    old: &View<'a>,
-    new: &View<'a>,
+pub fn put_wider<'s, 'w>(
+    old: &View<'s, 'w>,
+    new: &View<'s, 'w>,
     w: &[u32],
     n: usize,
     f: Hit,
