@@ -1,5 +1,5 @@
 -- The line that the reader cuts: that the pieces are the definition's, and what the line comes to by them.
-use mathlib.Core.Path.{◌≡◌, refl, sym, ◌∙◌}
+use mathlib.Core.Path.{◌≡◌, refl, sym, ap, ◌∙◌}
 use mathlib.Core.Bool.{Bool, true, false}
 use mathlib.Core.List.{List}
 use Prim.Native.Nat.{ℕ, ◌+◌, ◌≤◌, ◌<◌}
@@ -15,7 +15,7 @@ use Rattle.listings.specs.Records.{record_named}
 use Rattle.listings.specs.Heads.{head_of}
 use Rattle.entries.specs.Tables.{Tables}
 use Rattle.reading.specs.Fillings.{line_with, line_from, LineOutcome}
-use Rattle.reading.specs.Cuts.{kind_in, from_in, cut_of}
+use Rattle.reading.specs.Cuts.{kind_in, from_in, cut_by, cut_of}
 use Rattle.listings.specs.declared.records.Kind.{Kind}
 use Rattle.listings.specs.declared.records.Headed.{Headed}
 use Rattle.reading.specs.declared.lines.Cut.{Cut}
@@ -33,11 +33,9 @@ use Rattle.reading.proofs.Lineheads.{head_unended, head_tabbed, head_whole}
 pub none_behind : (s : Text) (e : ℕ) → length s ≤ e → false ≡ eqb (get_or s e 0) newline
 none_behind s e h = sym (rw (get_or-eq_default s 0 h) (ne_eqb 0 10 (λ q. omega arith)))
 
-pub cut_is : (s : Text) (at : ℕ) (d : Option Headed) (k : Option Kind) (a e : ℕ) (b w : Bool)
-    → d ≡ head_of (part at (length s) s) → k ≡ kind_in d → a ≡ from_in at d → e ≡ a + to_field_end (drop a s) → b ≡ all is_text (part a e s) → w ≡ eqb (get_or s e 0) newline
-    → record { kind = k; field = record { from = a; end = e; clean = b }; whole = w } ≡ cut_of s at
+pub cut_is : (s : Text) (at : ℕ) (d x : Option Headed) (r : Cut) → d ≡ head_of (part at (length s) s) → d ≡ x → r ≡ cut_by s (kind_in x) (from_in at x) → r ≡ cut_of s at
 unfolding cut_of
-cut_is s at d k a e b w h i j l m n = rw (n, m, l, i, j, h, from_on at s)
+cut_is s at d x r h q e = e ∙ ap (λ (y : Option Headed). cut_by s (kind_in y) (from_in at y)) (sym q ∙ h ∙ ap head_of (from_on at s))
 
 -- ---- what the line comes to
 module _ (s : Text) (c : Cursor) (r : Cut) (is : r ≡ cut_of s c.at) where

@@ -22,11 +22,11 @@ abbrev pub from_in : ℕ → Option Headed → ℕ
 from_in at None = at
 from_in at (Some h) = at + h.size
 
--- a line whose head is h and whose field begins at a: the record that it names, where the field begins and ends, whether that is all text,
+-- a line that names the record k and whose field begins at a: that record, where the field begins and ends, whether that is all text,
 -- and whether a byte 10 stands behind it
-abbrev pub cut_by : Text → Option Headed → ℕ → Cut
-cut_by s h a = record {
-  kind = kind_in h;
+abbrev pub cut_by : Text → Option Kind → ℕ → Cut
+cut_by s k a = record {
+  kind = k;
   field = record { from = a; end = end_of s a; clean = all is_text (part a (end_of s a) s) };
   whole = eqb (get_or s (end_of s a) 0) newline;
 }
@@ -34,4 +34,4 @@ cut_by s h a = record {
 -- the line at an offset of s
 unfoldable pub cut_of : Text → ℕ → Cut
 unfolding head_of to_field_end all is_text
-cut_of s at = cut_by s (head_of (drop at s)) (from_in at (head_of (drop at s)))
+cut_of s at = cut_by s (kind_in (head_of (drop at s))) (from_in at (head_of (drop at s)))
