@@ -317,7 +317,7 @@ module _ (s : Text) (p : ℕ) (t : Start) (w : List ℕ) (e : Entered s p t w) (
     })
 
     module _ (m : ℕ) (out : Text) (size : m ≡ length (text_at s t.next)) (short : m ≤ 255) (room : length out ≡ 256)
-      (text : length (text_at s t.next) ≤ length out → take (length (text_at s t.next)) out ≡ text_at s t.next) where
+        (text : length (text_at s t.next) ≤ length out → take (length (text_at s t.next)) out ≡ text_at s t.next) where
       text_is : take m out ≡ text_at s t.next
       text_is = ap (λ (n : ℕ). take n out) size ∙ text (omega (arith, size))
 
