@@ -98,7 +98,7 @@ pub fn starred_strength(t: &[u8], path: &[u8], x: Ending) -> u32
     let Some(e) = t.strip_prefix(b"*.") else {
         return 0;
     };
-    if texts::are_same(&path[at..], e) && names::is_extension(e) {
+    if texts::are_alike(&path[at..], e) && names::is_extension(e) {
         return 2;
     }
     0

@@ -21,7 +21,7 @@ use Rattle.matching.proofs.Matchings.{strength_is}
 use Rattle.std.specs.Cmp.Lexicographic.{pointwise}
 use Rattle.text.proofs.Indices.{run_step}
 use Rattle.text.proofs.Truths.{never, not_so, eqb_swap}
-use Rattle.text.proofs.Spans.{same_equal, same_self, starts_short, stripped_end}
+use Rattle.text.proofs.Spans.{same_equal, same_self, starts_short, starts_is, stripped_end}
 use Rattle.decisions.specs.Matching.{is_under}
 use Rattle.matching.specs.Strengths.{kind_strength, rooted_strength, starred_strength, start_leading, lead_by, lead, leading}
 use Rattle.matching.specs.declared.Leading.{Leading}
@@ -173,8 +173,8 @@ module _ (p path : Text) where
         ∙ sym (under_more p path h ∙ rw (ne_eqb (get_or path (length p) 0) slash n) (and-false (starts_with p path)))
 
     -- it is one: the bytes before it tell
-    pub above_start : (r : Bool) → get_or path (length p) 0 ≡ 47 → r ≡ starts_with p path → r ≡ is_under p path
-    above_start r e q = q ∙ sym (under_more p path h ∙ rw (eq-eqb (get_or path (length p) 0) slash e) (and-true (starts_with p path)))
+    pub above_start : (r : Bool) → get_or path (length p) 0 ≡ 47 → r ≡ same p (take (length p) path) → r ≡ is_under p path
+    above_start r e q = starts_is p path r (omega arith) q ∙ sym (under_more p path h ∙ rw (eq-eqb (get_or path (length p) 0) slash e) (and-true (starts_with p path)))
 
 -- a text as long as P`/*` that is another has no strength below P
 pub above_none : (p u : Text) → same u (p ++ bytes "/*") ≡ false → length p + 2 ≤ length u → 0 ≡ stem_strength (prefix p) u

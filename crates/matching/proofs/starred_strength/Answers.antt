@@ -3,7 +3,7 @@ use borrow.Author.Rules.{rules}
 use Rattle.text.proofs.Truths.{ladder}
 use Rattle.matching.proofs.Matchings.{starred_plain, starred_other, starred_is}
 use Rattle.matching.proofs.starred_strength.Goals as goal
-use Rattle.matching.proofs.starred_strength.Goals.{else-are_same-via-then-are_same+else-is_extension, else-are_same-via-else-are_same}
+use Rattle.matching.proofs.starred_strength.Goals.{else-are_alike-via-then-are_alike+else-is_extension, else-are_alike-via-else-are_alike}
 
 pub returns-in_default : goal.returns-in_default
 returns-in_default c = search (rules, starred_plain)
@@ -16,7 +16,7 @@ returns-then-is_extension c = starred_is _ _ _ _ _ _ c.requires c.in-Extension.i
 
 pub returns : goal.returns
 returns c =
-    elim c.else-are_same.branch [
-      | else-are_same-via-then-are_same+else-is_extension w ↦ starred_is _ _ _ _ _ _ c.requires c.in-Extension.is c.in-Some.ensures.cases.0 c.in-Some.ensures.cases.1 (search (rules, ladder))
-      | else-are_same-via-else-are_same w ↦ starred_is _ _ _ _ _ _ c.requires c.in-Extension.is c.in-Some.ensures.cases.0 c.in-Some.ensures.cases.1 (search (rules, ladder))
+    elim c.else-are_alike.branch [
+      | else-are_alike-via-then-are_alike+else-is_extension w ↦ starred_is _ _ _ _ _ _ c.requires c.in-Extension.is c.in-Some.ensures.cases.0 c.in-Some.ensures.cases.1 (search (rules, ladder))
+      | else-are_alike-via-else-are_alike w ↦ starred_is _ _ _ _ _ _ c.requires c.in-Extension.is c.in-Some.ensures.cases.0 c.in-Some.ensures.cases.1 (search (rules, ladder))
     ]
