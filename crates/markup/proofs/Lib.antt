@@ -1,4 +1,5 @@
 -- How reading at places is the reading of lists:
+--   Bytes         the table of the bytes of a name
 --   Places        a byte and what follows it; one law for each way out of a leaf
 --   Steps         readers that are put together: where the first part faults, where it goes on, where a loop turns
 --   Blames        where a fault is put
@@ -9,6 +10,7 @@
 --   Counts        lines
 --   Tallied       what is gathered letter by letter is the trimmed text
 --   Keepings      gathering at places
+pub mod Bytes
 pub mod Places
 pub mod Steps
 pub mod Blames

@@ -14,7 +14,12 @@ pub fn place_in(p: usize, len: usize) -> usize
 pub fn ends_in(t: &[u8]) -> usize
     ensures { result ≡ count_by (λ b. b == newline) t.now }
 {
-    t.iter().filter(|b| **b == b'\n').count()
+    let mut n = 0;
+    // Kept: no `filter` and `count`, by which each byte takes a branch. Here none does, and several are counted at once.
+    for b in t {
+        n += usize::from(*b == b'\n');
+    }
+    n
 }
 
 // The line of the place p in s.

@@ -24,12 +24,18 @@ pub fn past<F: Fn(u8) -> bool>(s: &[u8], at: usize, kind: F) -> usize
 }
 
 // The place behind the white space at `at`.
+// Kept: `is_white` again by `==`, of which one test of a set of bits is made; by `matches!` a line feed takes a branch more, and what is no white space three.
+#[tactic(auto, unfolding(documents::specs::Chars::is_white))]
 pub fn white(s: &[u8], at: usize) -> usize
     requires { at ≤ length s.now }
     ensures within { Within s.now at result }
     ensures exact { drop result s.now ≡ after is_white (drop at s.now) }
 {
-    past(s, at, chars::is_white)
+    past(
+        s,
+        at,
+        |b| b == b' ' || b == b'\t' || b == b'\n' || b == b'\r',
+    )
 }
 
 // The place behind the bytes at `at` that stand for themselves in a text.
@@ -77,6 +83,8 @@ pub fn byte(s: &[u8], at: usize, b: u8) -> Result<usize, Fault>
 }
 
 // The place behind the bytes of a name at `at`.
+// Kept: its loop by itself; compiled into that of the attributes it counts three numbers at each byte, two of them for the white space behind the name.
+#[inline(never)]
 pub fn name_end(s: &[u8], at: usize) -> usize
     requires { at ≤ length s.now }
     ensures within { Within s.now at result }
