@@ -183,12 +183,16 @@ module _ (s : Text) (p : ℕ) (t : Start) where
   pub tell_none : (e : Blame) (out : Text) → Err e ≡ read_as gathered (letters (length s - p)) s t.next → take (length (text_at s t.next)) out ≡ text_at s t.next
   tell_none e out h = rw (refused_none (length s - p) s t.next e h) refl
 
+  -- what the buffer has of the letters there, it has of the text
+  pub tell_text : (n : ℕ) (out : Text) → (n ≤ length out → take n out ≡ trimmed letters_there) → n ≤ length out → take n out ≡ text_at s t.next
+  tell_text n out f l = f l ∙ sym (text_read (length s - p) s t.next)
+
   -- and one that was gathered stands in the buffer
-  pub tell_text : (g : Gathered) (out : Text) → Ok g ≡ read_as gathered (letters (length s - p)) s t.next → (g.len ≤ length out → take g.len out ≡ trimmed letters_there)
+  pub tell_stands : (g : Gathered) (out : Text) → Ok g ≡ read_as gathered (letters (length s - p)) s t.next → (g.len ≤ length out → take g.len out ≡ trimmed letters_there)
       → length (text_at s t.next) ≤ length out → take (length (text_at s t.next)) out ≡ text_at s t.next
-  tell_text g out e f l =
+  tell_stands g out e f l =
       let z : g.len ≡ length (text_at s t.next) = gathered_size (length s - p) s t.next g e in
-      ap (λ (n : ℕ). take n out) (sym z) ∙ f (rw z l) ∙ sym (text_read (length s - p) s t.next)
+      ap (λ (n : ℕ). take n out) (sym z) ∙ tell_text g.len out f (rw z l)
 
 -- ---- the kinds of records that have a text
 module _ (k : ℕ) (h : is_text_kind k ≡ true) where
@@ -316,10 +320,9 @@ module _ (s : Text) (p : ℕ) (t : Start) (w : List ℕ) (e : Entered s p t w) (
       fits = e.fits;
     })
 
-    module _ (m : ℕ) (out : Text) (size : m ≡ length (text_at s t.next)) (short : m ≤ 255) (room : length out ≡ 256)
-        (text : length (text_at s t.next) ≤ length out → take (length (text_at s t.next)) out ≡ text_at s t.next) where
+    module _ (m : ℕ) (out : Text) (short : m ≤ 255) (room : length out ≡ 256) (text : m ≤ length out → take m out ≡ text_at s t.next) where
       text_is : take m out ≡ text_at s t.next
-      text_is = ap (λ (n : ℕ). take n out) size ∙ text (omega (arith, size))
+      text_is = text (omega arith)
 
       pub text_saying : Saying s p t.next n k.item (take m out) w
       text_saying = record { offered = offered_text t.next (take m out) e.tag.within (sym text_is); here = here; within = l }
@@ -331,6 +334,19 @@ module _ (s : Text) (p : ℕ) (t : Start) (w : List ℕ) (e : Entered s p t w) (
         within = h.within;
         fits = h.fits;
       }
+
+    -- the same of a text that stands whole in the buffer, and has m bytes
+    module _ (m : ℕ) (out : Text) (size : m ≡ length (text_at s t.next)) (short : m ≤ 255) (room : length out ≡ 256)
+        (text : length (text_at s t.next) ≤ length out → take (length (text_at s t.next)) out ≡ text_at s t.next) where
+      by_size : m ≤ length out → take m out ≡ text_at s t.next
+      by_size l = ap (λ (n : ℕ). take n out) size ∙ text (rw (← size) l)
+
+      pub sized_saying : Saying s p t.next n k.item (take m out) w
+      sized_saying = text_saying m out short room by_size
+
+      pub sized_said : (r : Result Went Blame) (v : List ℕ)
+          → Gone s (read_on (adding_at (length s - p) (phase_at k.next) (kind_by (number_of k.item)) (take m out) (ledger_at s w)) s n) r v → text_to r v
+      sized_said r v h = text_said m out short room by_size r v h
 
   -- no text stands where the tag does
   tag_goes_not_on : goes_on (drop p s) ≡ false

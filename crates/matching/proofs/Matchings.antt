@@ -7,7 +7,7 @@ use lib.ListN.{length, take, drop, get_or}
 use lib.Seq.{take_all}
 use lib.Dec.{eqb, eqb-suc-zero}
 use Rattle.std.specs.Cmp.Lexicographic.{pointwise}
-use Rattle.text.specs.Texts.{Text, bytes, slash, dot, same, starts_with, ends_with, part, run}
+use Rattle.text.specs.Texts.{Text, bytes, slash, dot, same, has, starts_with, ends_with, part, run}
 use Rattle.names.specs.Patterns.{PatternKind, exact, prefix, extension, default, unpermitted, is_extension, kind_of}
 use Rattle.text.proofs.Truths.{eqb_swap}
 use Rattle.text.proofs.Spans.{from_on, stripped, stripped_end}
@@ -65,10 +65,10 @@ empty_length [] = refl
 empty_length (x ∷ xs) = sym (eqb-suc-zero (length xs))
 
 -- the last segment has no `.`
-pub starred_plain : (t path : Text) (x : Ending) (at : ℕ) → Ends path x → x ≡ Segment at → 0 ≡ starred_strength t path
+pub starred_plain : (t path : Text) → has dot (last_segment path) ≡ false → 0 ≡ starred_strength t path
 unfolding starred_strength has_extension
-starred_plain t path x at v e =
-    rw (sym v.dotted ∙ ap has_dot e) (sym (none_either (starred t)))
+starred_plain t path e =
+    rw e (sym (none_either (starred t)))
   where
     starred : Text → Bool
     starred t = starts_with (bytes "*.") t && is_extension (drop 2 t)
@@ -76,6 +76,10 @@ starred_plain t path x at v e =
     none_either : (b : Bool) → ◌≡◌ {A = ℕ} (cond b 0 0) 0
     none_either true = refl
     none_either false = refl
+
+-- as the path's ending tells
+pub starred_segment : (t path : Text) (x : Ending) (at : ℕ) → Ends path x → x ≡ Segment at → 0 ≡ starred_strength t path
+starred_segment t path x at v e = starred_plain t path (sym v.dotted ∙ ap has_dot e)
 
 -- the text does not start with `*.`
 pub starred_other : (t path : Text) → pointwise eqb (take 2 t) (bytes "*.") ≡ false → 0 ≡ starred_strength t path

@@ -173,8 +173,12 @@ module _ (p path : Text) where
         ∙ sym (under_more p path h ∙ rw (ne_eqb (get_or path (length p) 0) slash n) (and-false (starts_with p path)))
 
     -- it is one: the bytes before it tell
-    pub above_start : (r : Bool) → get_or path (length p) 0 ≡ 47 → r ≡ same p (take (length p) path) → r ≡ is_under p path
-    above_start r e q = starts_is p path r (omega arith) q ∙ sym (under_more p path h ∙ rw (eq-eqb (get_or path (length p) 0) slash e) (and-true (starts_with p path)))
+    pub above_start : (r : Bool) → get_or path (length p) 0 ≡ 47 → r ≡ starts_with p path → r ≡ is_under p path
+    above_start r e q = q ∙ sym (under_more p path h ∙ rw (eq-eqb (get_or path (length p) 0) slash e) (and-true (starts_with p path)))
+
+    -- and as the code compares these
+    pub above_alike : (r : Bool) → get_or path (length p) 0 ≡ 47 → r ≡ same p (take (length p) path) → r ≡ is_under p path
+    above_alike r e q = above_start r e (starts_is p path r (omega arith) q)
 
 -- a text as long as P`/*` that is another has no strength below P
 pub above_none : (p u : Text) → same u (p ++ bytes "/*") ≡ false → length p + 2 ≤ length u → 0 ≡ stem_strength (prefix p) u

@@ -22,11 +22,11 @@ use Rattle.reading.specs.declared.lines.Cut.{Cut}
 use Rattle.reading.specs.declared.reader.Cursor.{Cursor}
 use Rattle.reading.specs.declared.reader.Lined.{Lined}
 use Rattle.listings.specs.declared.answers.Fault.{Fault}
-use Rattle.std.specs.Prelude.{Option, Some, None, Result, Err}
+use Rattle.std.specs.Prelude.{Option, Some, None, is_some, Result, Err}
 use Rattle.listings.specs.declared.answers.Fault.TheVariants.{BadForm}
 use Rattle.text.proofs.Truths.{never}
 use Rattle.text.proofs.Spans.{from_on}
-use Rattle.reading.proofs.Lineheads.{head_unended, head_tabbed, head_whole}
+use Rattle.reading.proofs.Lineheads.{head_none, head_unended, head_tabbed, head_whole}
 
 -- ---- the pieces
 -- no byte 10 stands behind the text
@@ -53,6 +53,11 @@ module _ (s : Text) (c : Cursor) (r : Cut) (is : r ≡ cut_of s c.at) where
   cut_from : r.field.from ≡ from_in c.at head
   unfolding cut_of
   cut_from = rw is
+
+  -- a line that names no record has no head
+  headless : (d : Option Headed) → kind_in d ≡ None → d ≡ None
+  headless None e = refl
+  headless (Some d) e = absurd (never true refl (ap (λ (k : Option Kind). is_some k) e))
 
   from_behind : (d : Option Headed) → c.at ≤ from_in c.at d
   from_behind None = omega arith
@@ -88,12 +93,25 @@ module _ (s : Text) (c : Cursor) (r : Cut) (is : r ≡ cut_of s c.at) where
   cut_within g = omega (arith, cut_here g)
 
   module _ (T : Tables) (w : List ℕ) (h : c.at < length s) where
-    pub cut_bad : r.whole ≡ false → LineOutcome s c (line_from T (lines_of (drop c.at s))) (Err BadForm) w
-    cut_bad g = how (dec_lt r.field.end (length s))
+    -- no byte 10 ends it
+    pub cut_unended : r.whole ≡ false → LineOutcome s c (line_from T (lines_of (drop c.at s))) (Err BadForm) w
+    cut_unended g = how (dec_lt r.field.end (length s))
       where
         how : Dec (r.field.end < length s) → LineOutcome s c (line_from T (lines_of (drop c.at s))) (Err BadForm) w
         how (yes i) = head_tabbed s c T h w head r.field.end refl cut_end i (eqb-false (get_or s r.field.end 0) newline (sym cut_stop ∙ g))
         how (no i) = head_unended s c T h w head r.field.end refl cut_end (omega arith)
+
+    -- it names no record
+    pub cut_unnamed : r.kind ≡ None → LineOutcome s c (line_from T (lines_of (drop c.at s))) (Err BadForm) w
+    cut_unnamed g = head_none s c T h w (headless head (sym cut_kind ∙ g))
+
+    -- one or the other
+    pub cut_bad : (r.whole ≡ true → r.kind ≡ None) → LineOutcome s c (line_from T (lines_of (drop c.at s))) (Err BadForm) w
+    cut_bad g = how r.whole refl
+      where
+        how : (b : Bool) → r.whole ≡ b → LineOutcome s c (line_from T (lines_of (drop c.at s))) (Err BadForm) w
+        how true e = cut_unnamed (g e)
+        how false e = cut_unended e
 
     pub cut_whole : (l : Result Lined Fault) → r.whole ≡ true
         → LineOutcome s c (line_with T (record_named r.kind (part r.field.from r.field.end s)) (lines_of (drop (r.field.end + 1) s))) l w

@@ -1,12 +1,12 @@
 -- `matching::starred_strength` meets its contract, test by test.
 use borrow.Author.Rules.{rules}
 use Rattle.text.proofs.Truths.{ladder}
-use Rattle.matching.proofs.Matchings.{starred_plain, starred_other, starred_is}
+use Rattle.matching.proofs.Matchings.{starred_segment, starred_other, starred_is}
 use Rattle.matching.proofs.starred_strength.Goals as goal
 use Rattle.matching.proofs.starred_strength.Goals.{else-are_alike-via-then-are_alike+else-is_extension, else-are_alike-via-else-are_alike}
 
 pub returns-in_default : goal.returns-in_default
-returns-in_default c = search (rules, starred_plain)
+returns-in_default c = search (rules, starred_segment)
 
 pub returns-in_default-strip_prefix : goal.returns-in_default-strip_prefix
 returns-in_default-strip_prefix c = search (rules, starred_other)

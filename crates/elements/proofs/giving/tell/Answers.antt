@@ -1,7 +1,7 @@
 -- `giving::tell` meets its contract.
 use borrow.Author.Rules.{rules}
 use Rattle.elements.proofs.Goings.{shown_passed_as}
-use Rattle.elements.proofs.Givings.{tagged_begun, tell_size, tell_none, tell_text, tell_stops, tell_unclosed, tell_closes}
+use Rattle.elements.proofs.Givings.{tagged_begun, tell_size, tell_none, tell_stands, tell_stops, tell_unclosed, tell_closes}
 use Rattle.elements.proofs.giving.tell.Goals as goal
 
 pub gather-requires : goal.gather-requires
@@ -17,7 +17,7 @@ pub returns-in_err-next-clause-exact : goal.returns-in_err-next-clause-exact
 returns-in_err-next-clause-exact c = shown_passed_as _ _ c.from_residual-in_err-next.ensures.1 (search (rules, tell_unclosed))
 
 pub returns-in_err-next-clause-text : goal.returns-in_err-next-clause-text
-returns-in_err-next-clause-text c = search (rules, tell_text)
+returns-in_err-next-clause-text c = search (rules, tell_stands)
 
 pub returns-clause-exact : goal.returns-clause-exact
 returns-clause-exact c = search (rules, tell_closes)
@@ -26,4 +26,4 @@ pub returns-clause-size : goal.returns-clause-size
 returns-clause-size c = search (rules, tell_size)
 
 pub returns-clause-text : goal.returns-clause-text
-returns-clause-text c = search (rules, tell_text)
+returns-clause-text c = search (rules, tell_stands)
